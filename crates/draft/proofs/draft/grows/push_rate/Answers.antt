@@ -1,0 +1,26 @@
+use mathlib.Core.Path.{sym, ap, subst, _∙_}
+use Prim.Native.Nat.{_<_}
+use mathlib.Core.Bool.{true, false}
+use Rattle.std.specs.Of.Vec.{vec-items}
+use Rattle.std.proofs.shelf.Results.{err-from-errBy}
+use Rattle.table.specs.Problem.{Process}
+use Rattle.table.specs.Seen.{process-of, problem-of}
+use Rattle.draft.specs.Entered.{process-with, with-processes}
+use Rattle.draft.proofs.Last.{last-changed}
+use Rattle.draft.proofs.draft.grows.push_rate.Needs as need
+
+pub returns-in-Break-push : need.returns-in-Break-push
+returns-in-Break-push c =
+    let v = c .args .c .now .processes in
+    let p = err-from-errBy (c .from-residual .result) (c .from-residual .ensures .1) in
+    rw (p .1)
+    (ap (λ l. with-processes l (problem-of (c .args .c .now)))
+      (last-changed process-of (process-with (c .args .rate)) (vec-items v) (c .len-last .result) (c .index-mut .result .now) _ (c .len-last .ensures ∙ v .ok .0) (subst (λ n. 0 < n) (sym (c .len-last .ensures)) (c .pre)) (c .index-mut .ensures .value) false
+        (ap (λ l. record { condition = (c .index-mut .result .now) .condition; rates = l }) (c .in-Break-push .ensures tt .items))))
+
+pub returns : need.returns
+returns c =
+    let v = c .args .c .now .processes in
+    ap (λ l. with-processes l (problem-of (c .args .c .now)))
+    (last-changed process-of (process-with (c .args .rate)) (vec-items v) (c .len-last .result) (c .index-mut .result .now) _ (c .len-last .ensures ∙ v .ok .0) (subst (λ n. 0 < n) (sym (c .len-last .ensures)) (c .pre)) (c .index-mut .ensures .value) true
+      (ap (λ l. record { condition = (c .index-mut .result .now) .condition; rates = l }) (c .in-Continue-push .ensures tt .items)))

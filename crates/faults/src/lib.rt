@@ -1,0 +1,162 @@
+// Why a call is refused: one enum with a case for each layer, which holds what that layer tells of the refusal.
+// Upper layers pass a fault on whole.
+ghost use mathlib.Core.Path.{_≡_};
+ghost use Rattle.faults.specs.declared.Fault.the-variants.{Record, Row, Memory};
+ghost use Rattle.faults.specs.Faults.{number, layer, place};
+use std::alloc::AllocError;
+use std::alloc::Refused;
+use std::fmt;
+
+// The layers that refuse.
+#[derive(Clone, Copy)]
+pub enum Layer {
+    Record,
+    Row,
+}
+
+// What is asked of a record as bytes.
+#[derive(Clone, Copy)]
+pub enum RecordQuestion {
+    Whole,
+    Kind,
+    Order,
+}
+
+// A record that was refused as bytes, by the offset of its first byte.
+#[derive(Clone, Copy)]
+pub struct RecordFault {
+    pub question: RecordQuestion,
+    pub at: usize,
+}
+
+// What is asked of a record as a row of the problem.
+#[derive(Clone, Copy)]
+pub enum RowQuestion {
+    Limit,
+    Fields,
+    Rows,
+    Depth,
+    Name,
+    Goal,
+}
+
+// A record that was refused as a row, by its count among the records, from 1.
+#[derive(Clone, Copy)]
+pub struct RowFault {
+    pub question: RowQuestion,
+    pub count: usize,
+}
+
+// Want of memory is a case of its own, with no number, layer or place.
+#[derive(Clone, Copy)]
+pub enum Fault {
+    Record(RecordFault),
+    Row(RowFault),
+    Memory,
+}
+
+pub impl From<RecordFault> for Fault as FaultFromRecord {
+    ghost converts = { λ f r. r ≡ Record f };
+
+    fn from(f: RecordFault) -> Fault {
+        Fault::Record(f)
+    }
+}
+
+pub impl From<RowFault> for Fault as FaultFromRow {
+    ghost converts = { λ f r. r ≡ Row f };
+
+    fn from(f: RowFault) -> Fault {
+        Fault::Row(f)
+    }
+}
+
+pub impl From<AllocError> for Fault as FaultFromAlloc {
+    ghost converts = { λ _ r. r ≡ Memory };
+
+    fn from(_e: AllocError) -> Fault {
+        Fault::Memory
+    }
+}
+
+pub impl<T: Drop> From<Refused<T>> for Fault as FaultFromRefused {
+    ghost converts = { λ _ r. r ≡ Memory };
+
+    fn from(_e: Refused<T>) -> Fault {
+        Fault::Memory
+    }
+}
+
+impl Fault {
+    // The number of the question whose answer was no.
+    pub fn number(&self) -> Option<u16>
+        ensures { λ r. ⌜ r ≡ number (now (self .entry)) ⌝ }
+    {
+        match self {
+            Fault::Record(f) => match f.question {
+                RecordQuestion::Whole => Some(1),
+                RecordQuestion::Kind => Some(2),
+                RecordQuestion::Order => Some(3),
+            },
+            Fault::Row(f) => match f.question {
+                RowQuestion::Limit => Some(4),
+                RowQuestion::Fields => Some(5),
+                RowQuestion::Rows => Some(6),
+                RowQuestion::Depth => Some(7),
+                RowQuestion::Name => Some(8),
+                RowQuestion::Goal => Some(9),
+            },
+            Fault::Memory => None,
+        }
+    }
+
+    // The layer that refused.
+    pub fn layer(&self) -> Option<Layer>
+        ensures { λ r. ⌜ r ≡ layer (now (self .entry)) ⌝ }
+    {
+        match self {
+            Fault::Record(_) => Some(Layer::Record),
+            Fault::Row(_) => Some(Layer::Row),
+            Fault::Memory => None,
+        }
+    }
+
+    // Where it refused, counted as its layer counts.
+    pub fn place(&self) -> Option<usize>
+        ensures { λ r. ⌜ r ≡ place (now (self .entry)) ⌝ }
+    {
+        match self {
+            Fault::Record(f) => Some(f.at),
+            Fault::Row(f) => Some(f.count),
+            Fault::Memory => None,
+        }
+    }
+}
+
+// A sentence for a person.
+pub impl fmt::Display for Fault as FaultDisplay {
+    fn fmt<W: fmt::Write>(&self, f: &mut fmt::Formatter<W>) -> fmt::Result {
+        match self {
+            Fault::Record(r) => {
+                let at = r.at;
+                match r.question {
+                    RecordQuestion::Whole => write!(f, "the bytes from {at} on are not a whole record"),
+                    RecordQuestion::Kind => write!(f, "the record at byte {at} has no such kind, or a length that its kind does not have"),
+                    RecordQuestion::Order => write!(f, "the record at byte {at} may not stand here"),
+                }
+            }
+            Fault::Row(r) => {
+                let count = r.count;
+                match r.question {
+                    RowQuestion::Limit => write!(f, "record {count} passes the limit of its kind"),
+                    RowQuestion::Fields => write!(f, "record {count} has a field that is not lawful"),
+                    RowQuestion::Rows => write!(f, "record {count} names a row that does not stand yet"),
+                    RowQuestion::Depth => write!(f, "record {count} is deeper than 12"),
+                    RowQuestion::Name => write!(f, "record {count} has the name of an earlier action"),
+                    RowQuestion::Goal => write!(f, "there is no goal: record {count} should be one"),
+                }
+            }
+            Fault::Memory => write!(f, "there is not enough memory"),
+        }
+    }
+}

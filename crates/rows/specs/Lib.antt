@@ -1,0 +1,4 @@
+pub mod After
+pub mod Range
+pub mod Lawful
+pub mod Seen

@@ -1,0 +1,5 @@
+pub mod Problem
+pub mod Depth
+pub mod Lawful
+pub mod Seen
+pub mod Sealed
