@@ -42,7 +42,7 @@ pub kept : (s : Code) → Keeps (seen s) (vec-items (s .«expression_depths»)) 
 kept s = (s .lawful, (s .«expressions_measured», (s .«formulas_measured», (s .«effects_counted», (s .«rates_counted», tt)))))
 
 -- a question that refuses nothing was answered by yes, and so were those after it
-ask-passed : (b : Bool) (f : Fault) (rest : Option Fault) → ask b f rest ≡ None → (b ≡ true) × (rest ≡ None)
+pub ask-passed : (b : Bool) (f : Fault) (rest : Option Fault) → ask b f rest ≡ None → (b ≡ true) × (rest ≡ None)
 ask-passed true f rest h = (refl, h)
 ask-passed false f rest h = let z : _≡_ {A = ℕ} 0 1 = cc in absurd (omega arith)
 

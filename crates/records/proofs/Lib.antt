@@ -1,3 +1,6 @@
 pub mod Numbers
 pub mod Codec
+pub mod Front
+pub mod Read
+pub mod Taken
 pub mod Fitting

@@ -4,3 +4,4 @@ pub mod Decoded
 pub mod Loaded
 pub mod Written
 pub mod Laws
+pub mod Seen

@@ -238,7 +238,8 @@ impl Draft {
         }
     }
 
-    pub(crate) fn row_fault(&self, question: RowQuestion) -> Fault
+    // The fault by which the record that comes next is refused.
+    pub fn row_fault(&self, question: RowQuestion) -> Fault
         ensures { λ r. ⌜ r ≡ row-fault question (seen (now (self .entry))) ⌝ }
     {
         Fault::Row(RowFault { question, count: self.records() + 1 })

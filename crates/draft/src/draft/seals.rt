@@ -34,6 +34,13 @@ impl Draft {
         }
     }
 
+    // Lets go of all that the draft holds.
+    pub fn clear(&mut self)
+        ensures { λ _. ⌜ seen (now (self .exit)) ≡ blank ⌝ }
+    {
+        *self = Draft::blank(self.heap);
+    }
+
     // Has the goal come? It moves and changes nothing.
     pub fn ask_seal(&self) -> Result<(), Fault>
         ensures { λ r. ⌜ fault r ≡ seal-refused (seen (now (self .entry))) ⌝ }

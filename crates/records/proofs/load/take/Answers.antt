@@ -1,0 +1,30 @@
+use mathlib.Core.Path.{_≡_, sym, subst}
+use mathlib.Core.Bool.{true}
+use lib.ListN.{length}
+use Rattle.std.specs.declared.option.Option.the-variants.{None}
+use Rattle.faults.specs.declared.RecordQuestion.the-variants.{Order}
+use Rattle.faults.specs.declared.RowQuestion.the-variants.{Limit}
+use Rattle.draft.specs.Entry.{kind}
+use Rattle.draft.specs.Questions.{ask, may-stand, has-room, record-fault, row-fault}
+use Rattle.draft.specs.Seen.{seen}
+use Rattle.draft.specs.Plain.{plain-entry}
+use Rattle.draft.specs.declared.entry.Kind.{Kind}
+use Rattle.draft.proofs.Kept.{ask-passed}
+use Rattle.records.specs.Kinds.{coded}
+use Rattle.records.proofs.Read.{fits-read, kind-decoded}
+use Rattle.records.proofs.load.take.Needs as need
+
+pub decode-requires : need.decode-requires
+decode-requires c κs = fits-read (length (c .args .body .now)) (coded (c .args .code)) (c .in-Some .kind) (c .in-Some .ensures tt)
+
+pub admit-requires : need.admit-requires
+admit-requires c κs =
+    let d = seen (c .args .draft .now) in
+    let k = c .in-Some .kind in
+    let is = kind-decoded k (c .args .body .now) (plain-entry (c .in-Some-decode .entry)) (c .in-Some-decode .ensures tt) in
+    let a = ask-passed (may-stand d k) (record-fault Order (c .args .at)) (ask (has-room d k) (row-fault Limit d) None) (sym (c .in-Continue-ask-kind .ensures tt)) in
+    let b = ask-passed (has-room d k) (row-fault Limit d) None (a .1) in
+    record {
+      stands = subst (λ (j : Kind). may-stand d j ≡ true) (sym is) (a .0);
+      room = subst (λ (j : Kind). has-room d j ≡ true) (sym is) (b .0);
+    }
