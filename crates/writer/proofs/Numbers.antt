@@ -5,12 +5,13 @@ use Prim.Native.Nat.{ℕ, _+_, _*_, _/_, _%_, _<_}
 use native.Mathlib.Nat.{div-div-eq-div-mul}
 use native.Mathlib.Omega.{arith}
 use lib.IntN.{ℤ, pos, negsuc}
+use mir.Facts.{fits-ofZ}
 use mir.Syntax.{w32}
 use mir.Val.{toZ, ofZ, SFits}
 use Rattle.std.proofs.shelf.Signed.{toZ-ofZ}
 use Rattle.std.proofs.shelf.Ways.{tells}
 use Rattle.rows.specs.Range.{in-range}
 use Rattle.records.specs.Bytes.{pair}
 
 -- a field from its two bytes
 pub pair-back : (n : ℕ) → n < 65536 → pair (n % 256) (n / 256 % 256) ≡ n
@@ -29,12 +30,9 @@ range-fits : (z : ℤ) → in-range z ≡ true → SFits w32 z
 range-fits (pos n) h = record { sfits = grind (arith, tells) }
 range-fits (negsuc n) h = record { sfits = grind (arith, tells) }
 
--- its bits are below 2^32
-bits-small : (z : ℤ) → in-range z ≡ true → ofZ w32 z < 4294967296
-bits-small (pos n) h = grind (arith, tells)
-bits-small (negsuc n) h = grind (arith, tells)
-
 -- a value from its four bytes
 pub value-back : (z : ℤ) → in-range z ≡ true
-  → toZ w32 (ofZ w32 z % 256 + ofZ w32 z / 256 % 256 * 256 + ofZ w32 z / 65536 % 256 * 65536 + ofZ w32 z / 16777216 % 256 * 16777216) ≡ z
-value-back z h = ap (toZ w32) (four-back (ofZ w32 z) (bits-small z h)) ∙ toZ-ofZ w32 z (range-fits z h)
+    → toZ w32 (ofZ w32 z % 256 + ofZ w32 z / 256 % 256 * 256 + ofZ w32 z / 65536 % 256 * 65536 + ofZ w32 z / 16777216 % 256 * 16777216) ≡ z
+value-back z h =
+    let s = range-fits z h in
+    ap (toZ w32) (four-back (ofZ w32 z) (fits-ofZ s .fits)) ∙ toZ-ofZ w32 z s

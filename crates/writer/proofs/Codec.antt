@@ -1,67 +1,33 @@
 -- What is written of an entry is read back as that entry.
 use mathlib.Core.Path.{_≡_, refl, ap}
-use mathlib.Core.Bool.{Bool, true, false, _&&_}
+use mathlib.Core.Bool.{true, false, _&&_}
 use mathlib.Core.List.{List, [], _∷_, _++_, map}
-use Prim.Native.Nat.{ℕ, _+_, _-_, _/_, _%_, _<_}
+use Prim.Native.Nat.{ℕ, _+_, _-_, _/_, _%_}
 use native.Mathlib.Omega.{arith}
-use lib.Dec.{ltb, leb}
+use lib.Dec.{leb}
 use lib.ListN.{length, getD}
 use Rattle.std.specs.Joined.{joined}
 use Rattle.std.specs.declared.option.Option.the-variants.{Some}
 use Rattle.std.proofs.shelf.Lists.{take-at, drop-at, length-append}
 use Rattle.std.proofs.shelf.Tests.{and-parts, ltb-true}
 use Rattle.std.proofs.shelf.Ways.{tells}
-use Rattle.rows.specs.Range.{in-range}
 use Rattle.rows.specs.declared.row.Expression.the-variants.{Constant, Number, Sum, Difference, Product}
 use Rattle.rows.specs.declared.row.Comparison.the-variants.{AtMost, Less, Equal, Greater, AtLeast}
 use Rattle.rows.specs.declared.row.Formula.the-variants.{True, Bit, Compare, Not, And, Or}
 use Rattle.rows.specs.declared.row.Change.{Change}
 use Rattle.rows.specs.declared.row.Change.the-variants.{Set, Assign, Increase, Decrease}
-use Rattle.table.specs.Lawful.{all, lawful-name}
+use Rattle.table.specs.Lawful.{all}
 use Rattle.draft.specs.Entry.{Entry, head, bit, number, expression, formula, action, event, process, effect, rate, goal, kind}
 use Rattle.records.specs.Bytes.{whole, first, pair, pair-bytes}
 use Rattle.records.specs.Kinds.{code, kind-read}
 use Rattle.records.specs.Decoded.{decoded, effect-of}
-use Rattle.records.specs.Written.{fields, tail, encoded}
-use Rattle.records.proofs.Numbers.{pair-back, value-back}
-
--- a field takes at most two bytes
-abbrev pub small : ℕ → Bool
-small n = ltb n 65536
-
--- a value lies in the range, and a name is lawful
-abbrev pub tail-fits : Entry → Bool
-tail-fits (head t) = true
-tail-fits (bit v) = true
-tail-fits (number z) = in-range z
-tail-fits (expression (Constant v)) = in-range v
-tail-fits (expression (Number n)) = true
-tail-fits (expression (Sum a b)) = true
-tail-fits (expression (Difference a b)) = true
-tail-fits (expression (Product a b)) = true
-tail-fits (formula f) = true
-tail-fits (action c n) = lawful-name n
-tail-fits (event c) = true
-tail-fits (process c) = true
-tail-fits (effect e) = true
-tail-fits (rate r) = true
-tail-fits (goal f) = true
-
--- every field takes at most two bytes, and what stands behind the fields is right
-abbrev pub Fits : Entry → Type 0
-Fits e = (all small (fields e) ≡ true) × (tail-fits e ≡ true)
+use Rattle.writer.specs.Written.{fields, tail, encoded}
+use Rattle.writer.proofs.Numbers.{pair-back, value-back}
+use Rattle.writer.proofs.Fits.{small, Fits}
 
 -- what follows the code
 abbrev pub body : Entry → List ℕ
 body e = joined pair-bytes (fields e) ++ tail e
-
--- a record is not empty
-pub encoded-cons : (e : Entry) → (b : ℕ) × (bs : List ℕ) × (encoded e ≡ b ∷ bs)
-encoded-cons e = (_, _, refl)
-
--- nor is its length zero
-pub encoded-length : (e : Entry) → 0 < length (encoded e)
-encoded-length e = omega arith
 
 -- fields from their bytes
 fields-back : (xs : List ℕ) → all small xs ≡ true → map (λ n. pair (n % 256) (n / 256 % 256)) xs ≡ xs
@@ -81,7 +47,7 @@ whole-front len c b rest h =
 
 -- the same behind its length and its code
 first-short : (c : ℕ) (b rest : List ℕ) → (small c && small (2 + length b)) ≡ true
-  → first ((pair-bytes (2 + length b) ++ (pair-bytes c ++ b)) ++ rest) ≡ Some (record { code = c; body = b; rest = rest })
+    → first ((pair-bytes (2 + length b) ++ (pair-bytes c ++ b)) ++ rest) ≡ Some (record { code = c; body = b; rest = rest })
 first-short c b rest h =
     let p = and-parts (small c) (small (2 + length b)) h in
     rw (pair-back c (ltb-true c 65536 (p .0))) (whole-front _ c b rest (pair-back (2 + length b) (ltb-true (2 + length b) 65536 (p .1))))
@@ -126,12 +92,12 @@ read-back (action c n) h = (grind (arith, tells), grind (arith, tells), cc (fiel
 read-back (event c) h = (refl, refl, cc (fields-back (c ∷ []) (h .0)))
 read-back (process c) h = (refl, refl, cc (fields-back (c ∷ []) (h .0)))
 read-back (effect e) h = read-effect (e .condition) (e .change) h
-read-back (rate r) h = (refl, refl, ap (λ (l : List ℕ). Some (rate (record { number = getD l 0 0; expression = getD l 1 0 }))) (fields-back (fields (rate r)) (h .0)))
+read-back (rate r) h = (refl, refl, ap (λ l. Some (rate (record { number = getD l 0 0; expression = getD l 1 0 }))) (fields-back (fields (rate r)) (h .0)))
 read-back (goal f) h = (refl, refl, cc (fields-back (f ∷ []) (h .0)))
 
 -- a written entry is the record at the front of its bytes
 pub first-encoded : (e : Entry) (rest : List ℕ) → Fits e
-  → first (encoded e ++ rest) ≡ Some (record { code = code (kind e); body = body e; rest = rest })
+    → first (encoded e ++ rest) ≡ Some (record { code = code (kind e); body = body e; rest = rest })
 first-encoded e rest h = first-short (code (kind e)) (body e) rest (read-back e h .0)
 
 -- its kind is read back

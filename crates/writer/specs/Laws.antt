@@ -3,8 +3,8 @@ use mathlib.Core.Path.{_≡_}
 use Rattle.std.specs.declared.result.Result.the-variants.{Ok}
 use Rattle.table.specs.Problem.{Problem}
 use Rattle.table.specs.Lawful.{Lawful}
 use Rattle.records.specs.Loaded.{problem-loaded}
-use Rattle.records.specs.Written.{written}
+use Rattle.writer.specs.Written.{written}
 
 abbrev pub Loads-back : Problem → Type 0
 Loads-back p = problem-loaded (written p) ≡ Ok p

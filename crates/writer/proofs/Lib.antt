@@ -1,0 +1,12 @@
+pub mod Numbers
+pub mod Fits
+pub mod Codec
+pub mod Places
+pub mod Walk
+pub mod Few
+pub mod Taken
+pub mod Sections
+pub mod Changes
+pub mod Owners
+pub mod Loads
+pub mod Pieces
