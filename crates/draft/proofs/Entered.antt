@@ -80,7 +80,7 @@ lawful-bit d v h k =
     let w : Within (counts-of p) (counts-of q) = record { bits = l; numbers = omega arith; expressions = omega arith; formulas = omega arith } in
     (((room-push (p .bits) v 64 (k .room), h .0 .0 .1, h .0 .0 .2, h .0 .0 .3), h .0 .1, h .0 .2),
      (h .1 .0, h .1 .1,
-      (formulas-more (length (p .bits)) (length (q .bits)) (length (p .expressions)) (length (p .expressions)) (p .formulas) l (omega arith) (h .1 .2 .0),
+      (formulas-more (length (p .bits)) (length (p .expressions)) (length (q .bits)) (length (p .expressions)) (p .formulas) l (omega arith) (h .1 .2 .0),
        h .1 .2 .1),
       owners-more (counts-of p) (counts-of q) (p .actions) (p .events) (p .processes) w (h .1 .3)),
      owner-more (d .owner) p q (omega arith) (omega arith) (omega arith) (h .2), h .3)
@@ -110,7 +110,7 @@ lawful-expression d e h k =
      (h .1 .0,
       (expressions-push (length (p .numbers)) (length (p .expressions)) (p .expressions) e refl (h .1 .1 .0) (k .rows),
        each-push shallow-expression [] (p .expressions) e (h .1 .1 .1) (k .shallow)),
-      (formulas-more (length (p .bits)) (length (p .bits)) (length (p .expressions)) (length (q .expressions)) (p .formulas) (omega arith) l (h .1 .2 .0),
+      (formulas-more (length (p .bits)) (length (p .expressions)) (length (p .bits)) (length (q .expressions)) (p .formulas) (omega arith) l (h .1 .2 .0),
        h .1 .2 .1),
       owners-more (counts-of p) (counts-of q) (p .actions) (p .events) (p .processes) w (h .1 .3)),
      owner-more (d .owner) p q (omega arith) (omega arith) (omega arith) (h .2), h .3)

@@ -40,8 +40,8 @@ expressions-more m n es l h =
     each-weaker (λ before e. expression-stands m (length before) e) (λ before e. expression-stands n (length before) e)
     (λ before e. expression-more m n (length before) e l) [] es h
 
-pub formulas-more : (b b′ e e′ : ℕ) (fs : List Formula) → b ≤ b′ → e ≤ e′ → lawful-formulas b e fs ≡ true → lawful-formulas b′ e′ fs ≡ true
-formulas-more b b′ e e′ fs l m h =
+pub formulas-more : (b e b′ e′ : ℕ) (fs : List Formula) → b ≤ b′ → e ≤ e′ → lawful-formulas b e fs ≡ true → lawful-formulas b′ e′ fs ≡ true
+formulas-more b e b′ e′ fs l m h =
     each-weaker (λ before f. formula-stands b e (length before) f) (λ before f. formula-stands b′ e′ (length before) f)
     (λ before f. formula-more b b′ e e′ (length before) f l m) [] fs h
 

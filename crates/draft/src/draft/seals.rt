@@ -10,7 +10,6 @@ ghost use Rattle.draft.specs.Outcome.{fault};
 ghost use Rattle.draft.specs.Seen.{seen};
 use crate::draft::Draft;
 use faults::Fault;
-use faults::RowFault;
 use faults::RowQuestion;
 use std::alloc::Global;
 use table::contents::Contents;
@@ -45,10 +44,7 @@ impl Draft {
     pub fn ask_seal(&self) -> Result<(), Fault>
         ensures { λ r. ⌜ fault r ≡ seal-refused (seen (now (self .entry))) ⌝ }
     {
-        if !self.ended {
-            return Err(self.row_fault(RowQuestion::Goal));
-        }
-        Ok(())
+        if self.ended { Ok(()) } else { Err(self.row_fault(RowQuestion::Goal)) }
     }
 
     // The table of a draft whose goal has come; any other draft is handed back as it was.
