@@ -1,8 +1,12 @@
-// Loads each file that cases.txt names, one to a line, and prints why it is refused, or that it is a problem. A problem is written
-// as records again: how many bytes that gives, and whether they are the file's own or those of its records in another order.
+// Takes each file that cases.txt names, one to a line, once by Load and once record by record by Add, and prints how it is answered:
+// the number and place of its refusal, or that it is a problem. A problem is written as records again: how many bytes that gives,
+// and whether they are the file's own or those of its records in another order.
+use draft::draft::Draft;
 use faults::Fault;
+use records::load::add;
 use records::load::load_table;
 use std::alloc::AllocError;
+use std::alloc::Global;
 use std::error::AnyError;
 use std::fs;
 use std::io;
@@ -23,20 +27,70 @@ fn first_bytes(rt: &LibcRuntime, name: &str) -> io::Result<Vec<u8>> {
     Ok(bytes)
 }
 
-fn print_problem(rt: &LibcRuntime, name: &str, table: &Table, bytes: &[u8]) -> Result<(), AnyError> {
-    let written = write(rt.alloc(), table)?;
-    let size = written.len();
-    let order = if written.as_slice() == bytes { "same" } else { "reordered" };
-    println!(rt, "{name} ok {size} {order}")?;
-    Ok(())
+// The record at the front of some bytes, and what follows it; all of them where there is no whole one.
+fn piece(bytes: &[u8]) -> (&[u8], &[u8]) {
+    let size = match bytes {
+        [l0, l1, ..] => 2 + *l0 as usize + *l1 as usize * 256,
+        _ => bytes.len(),
+    };
+    bytes.split_at(size.min(bytes.len()))
+}
+
+// The table of a file whose records are added one by one. A draft that may be sealed and is not is no answer.
+fn add_all(heap: Global, bytes: &[u8]) -> Result<Option<Table>, Fault> {
+    let mut draft = Draft::blank(heap);
+    let mut left = bytes;
+    for _ in 0..bytes.len() {
+        if left.is_empty() {
+            break;
+        }
+        let (record, rest) = piece(left);
+        add(&mut draft, record)?;
+        left = rest;
+    }
+    draft.ask_seal()?;
+    Ok(draft.seal().ok())
+}
+
+// The answer to a file, where a table is told by what it is as records.
+#[derive(Drop)]
+enum Answer {
+    Problem(Vec<u8>),
+    Refused(u16, usize),
 }
 
 // Want of memory is no answer to a case, and is an error.
-fn print_refusal(rt: &LibcRuntime, name: &str, fault: Fault) -> Result<(), AnyError> {
+fn refusal(fault: Fault) -> Result<Answer, AnyError> {
     let (Some(number), Some(place)) = (fault.number(), fault.place()) else {
         return Err(AllocError.into());
     };
-    println!(rt, "{name} refused {number} {place}")?;
+    Ok(Answer::Refused(number, place))
+}
+
+fn loaded(rt: &LibcRuntime, bytes: &[u8]) -> Result<Answer, AnyError> {
+    match load_table(rt.alloc(), bytes) {
+        Ok(table) => Ok(Answer::Problem(write(rt.alloc(), &table)?)),
+        Err(fault) => refusal(fault),
+    }
+}
+
+fn added(rt: &LibcRuntime, bytes: &[u8]) -> Result<Answer, AnyError> {
+    match add_all(rt.alloc(), bytes) {
+        Ok(Some(table)) => Ok(Answer::Problem(write(rt.alloc(), &table)?)),
+        Ok(None) => Err("a draft with a goal was not sealed".into()),
+        Err(fault) => refusal(fault),
+    }
+}
+
+fn print_answer(rt: &LibcRuntime, how: &str, answer: &Answer, bytes: &[u8]) -> Result<(), AnyError> {
+    match answer {
+        Answer::Problem(written) => {
+            let size = written.len();
+            let order = if written.as_slice() == bytes { "same" } else { "reordered" };
+            print!(rt, " {how} ok {size} {order}")?;
+        }
+        Answer::Refused(number, place) => print!(rt, " {how} refused {number} {place}")?,
+    }
     Ok(())
 }
 
@@ -44,10 +98,10 @@ fn run(rt: &LibcRuntime) -> Result<(), AnyError> {
     let cases = first_bytes(rt, CASES)?;
     for name in from_utf8(cases.as_slice())?.lines() {
         let bytes = first_bytes(rt, name)?;
-        match load_table(rt.alloc(), bytes.as_slice()) {
-            Ok(table) => print_problem(rt, name, &table, bytes.as_slice())?,
-            Err(fault) => print_refusal(rt, name, fault)?,
-        }
+        rt.print(name)?;
+        print_answer(rt, "loaded", &loaded(rt, bytes.as_slice())?, bytes.as_slice())?;
+        print_answer(rt, "added", &added(rt, bytes.as_slice())?, bytes.as_slice())?;
+        println!(rt)?;
     }
     Ok(())
 }
