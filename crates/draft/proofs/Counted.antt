@@ -36,7 +36,7 @@ rates-of-last r xs l = total-on-last (λ p. length (p .rates)) (process-with r) 
 
 -- an effect of the owner o counts once
 pub effects-with : (o : Option Owner) (p : Problem) (e : Effect) → owner-stands o p ≡ true → takes-effects o ≡ true
-  → effects-of (with-effect o e p) ≡ effects-of p + 1
+    → effects-of (with-effect o e p) ≡ effects-of p + 1
 effects-with (Some owners.Action) p e s t =
     omega (arith, effects-of-last-action e (p .actions) (ltb-true 0 (length (p .actions)) s))
 effects-with (Some owners.Event) p e s t =
@@ -46,7 +46,7 @@ effects-with None p e s t = absurd (false≢true t)
 
 -- an effect that is entered counts once
 pub effects-entered : (d : Draft) (e : Effect) → owner-stands (d .owner) (d .problem) ≡ true → takes-effects (d .owner) ≡ true
-  → effects-of (entered d (effect e) .problem) ≡ effects-of (d .problem) + 1
+    → effects-of (entered d (effect e) .problem) ≡ effects-of (d .problem) + 1
 effects-entered d e s t = effects-with (d .owner) (d .problem) e s t
 
 -- an owner that takes rates is a process
@@ -58,7 +58,7 @@ some-process None p s t = absurd (false≢true t)
 
 -- a rate that is entered counts once
 pub rates-entered : (d : Draft) (r : Rate) → owner-stands (d .owner) (d .problem) ≡ true → takes-rates (d .owner) ≡ true
-  → rates-of (entered d (rate r) .problem) ≡ rates-of (d .problem) + 1
+    → rates-of (entered d (rate r) .problem) ≡ rates-of (d .problem) + 1
 rates-entered d r s t = rates-of-last r (d .problem .processes) (some-process (d .owner) (d .problem) s t)
 
 -- an action begins with no effects

@@ -27,7 +27,7 @@ all-push passes (y ∷ ys) x h p =
 
 -- a test that passes wherever another does
 pub all-weaker : {X : Type 0} (passes would : X → Bool) → ((x : X) → passes x ≡ true → would x ≡ true)
-  → (xs : List X) → all passes xs ≡ true → all would xs ≡ true
+    → (xs : List X) → all passes xs ≡ true → all would xs ≡ true
 all-weaker passes would w [] h = refl
 all-weaker passes would w (x ∷ xs) h =
     let q = and-parts (passes x) (all passes xs) h in
@@ -35,7 +35,7 @@ all-weaker passes would w (x ∷ xs) h =
 
 -- the last element is changed, and passes still
 pub all-on-last : {X : Type 0} (passes : X → Bool) (change : X → X) → ((x : X) → passes x ≡ true → passes (change x) ≡ true)
-  → (xs : List X) → all passes xs ≡ true → all passes (on-last change xs) ≡ true
+    → (xs : List X) → all passes xs ≡ true → all passes (on-last change xs) ≡ true
 all-on-last passes change w [] h = refl
 all-on-last passes change w (x ∷ []) h =
     and-from (passes (change x)) true (w x (and-parts (passes x) true h .0)) refl
@@ -45,8 +45,8 @@ all-on-last passes change w (x ∷ y ∷ xs) h =
 
 -- the same where an element may stand after those before it
 pub each-on-last : {X : Type 0} (may : List X → X → Bool) (change : X → X)
-  → ((before : List X) (x : X) → may before x ≡ true → may before (change x) ≡ true)
-  → (before xs : List X) → each-after may before xs ≡ true → each-after may before (on-last change xs) ≡ true
+    → ((before : List X) (x : X) → may before x ≡ true → may before (change x) ≡ true)
+    → (before xs : List X) → each-after may before xs ≡ true → each-after may before (on-last change xs) ≡ true
 each-on-last may change w before [] h = refl
 each-on-last may change w before (x ∷ []) h =
     and-from (may before (change x)) true (w before x (and-parts (may before x) true h .0)) refl
@@ -63,7 +63,7 @@ length-on-last change (x ∷ y ∷ xs) = ap (λ (n : ℕ). suc n) (length-on-las
 
 -- the last element grows by one
 pub total-on-last : {X : Type 0} (size : X → ℕ) (change : X → X) → ((x : X) → size (change x) ≡ size x + 1)
-  → (xs : List X) → 0 < length xs → total size (on-last change xs) ≡ total size xs + 1
+    → (xs : List X) → 0 < length xs → total size (on-last change xs) ≡ total size xs + 1
 total-on-last size change w [] h = let z : ⊥ = omega arith in absurd z
 total-on-last size change w (x ∷ []) h = omega (arith, w x)
 total-on-last size change w (x ∷ y ∷ xs) h =
@@ -77,13 +77,13 @@ total-push size (y ∷ ys) x = omega (arith, total-push size ys x)
 
 -- one row more has its depth behind those of the rows before it
 pub depths-push : {X : Type 0} (depth : List ℕ → X → ℕ) (ds : List ℕ) (xs : List X) (x : X)
-  → depths-after depth ds (xs ++ x ∷ []) ≡ depths-after depth ds xs ++ depth (depths-after depth ds xs) x ∷ []
+    → depths-after depth ds (xs ++ x ∷ []) ≡ depths-after depth ds xs ++ depth (depths-after depth ds xs) x ∷ []
 depths-push depth ds [] x = refl
 depths-push depth ds (y ∷ ys) x = depths-push depth (ds ++ depth ds y ∷ []) ys x
 
 -- the change of the last element as a write to its place
 pub on-last-set : {X : Type 0} (f : X → X) (xs : List X) (d : X) → 0 < length xs
-  → on-last f xs ≡ set xs (length xs - 1) (f (getD xs (length xs - 1) d))
+    → on-last f xs ≡ set xs (length xs - 1) (f (getD xs (length xs - 1) d))
 on-last-set f [] d h = let z : ⊥ = omega arith in absurd z
 on-last-set f (x ∷ []) d h = refl
 on-last-set f (x ∷ y ∷ xs) d h =
@@ -119,7 +119,7 @@ process-more c d w p h =
 
 -- an effect that stands leaves its action standing
 pub action-push : (c : Counts) (e : Effect) → effect-stands c e ≡ true
-  → (before : List Action) (a : Action) → action-stands c before a ≡ true → action-stands c before (action-with e a) ≡ true
+    → (before : List Action) (a : Action) → action-stands c before a ≡ true → action-stands c before (action-with e a) ≡ true
 action-push c e s before a h =
     let n = and-parts (lawful-name (a .name)) _ h in
     let m = and-parts (new-name before (a .name)) _ (n .1) in
@@ -134,7 +134,7 @@ event-push c e s v h =
 
 -- a rate that stands leaves its process standing
 pub process-push : (c : Counts) (r : Rate) → rate-stands c r ≡ true
-  → (p : Process) → process-stands c p ≡ true → process-stands c (process-with r p) ≡ true
+    → (p : Process) → process-stands c p ≡ true → process-stands c (process-with r p) ≡ true
 process-push c r s p h =
     let q = and-parts (ltb (p .condition) (c .formulas)) _ h in
     and-from _ _ (q .0) (all-push (rate-stands c) (p .rates) r (q .1) s)

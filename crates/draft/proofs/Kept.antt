@@ -87,15 +87,19 @@ module _ (d : Draft) (es fs : List ℕ) (n m : ℕ) (k : Keeps d es fs n m) wher
   keeps-number z h = (lawful-next d (number z) (k .0) h, k .1)
 
   pub keeps-expression : (e : Expression) → Passes d (expression e) → Keeps (entered d (expression e)) (es ++ expression-depth es e ∷ []) fs n m
-  keeps-expression e h =
-      (lawful-next d (expression e) (k .0) h,
-       (ap (λ l. l ++ expression-depth l e ∷ []) (k .1 .0) ∙ sym (depths-push expression-depth [] (d .problem .expressions) e), k .1 .1))
+  keeps-expression e h = (
+    lawful-next d (expression e) (k .0) h,
+    (ap (λ l. l ++ expression-depth l e ∷ []) (k .1 .0) ∙ sym (depths-push expression-depth [] (d .problem .expressions) e), k .1 .1),
+  )
 
   pub keeps-formula : (f : Formula) → Passes d (formula f) → Keeps (entered d (formula f)) es (fs ++ formula-depth fs f ∷ []) n m
-  keeps-formula f h =
-      (lawful-next d (formula f) (k .0) h,
-       (k .1 .0,
-        (ap (λ l. l ++ formula-depth l f ∷ []) (k .1 .1 .0) ∙ sym (depths-push formula-depth [] (d .problem .formulas) f), k .1 .1 .1)))
+  keeps-formula f h = (
+    lawful-next d (formula f) (k .0) h,
+    (
+      k .1 .0,
+      (ap (λ l. l ++ formula-depth l f ∷ []) (k .1 .1 .0) ∙ sym (depths-push formula-depth [] (d .problem .formulas) f), k .1 .1 .1),
+    ),
+  )
 
   pub keeps-action : (c : ℕ) (name : List ℕ) → Passes d (action c name) → Keeps (entered d (action c name)) es fs n m
   keeps-action c name h =
@@ -112,17 +116,23 @@ module _ (d : Draft) (es fs : List ℕ) (n m : ℕ) (k : Keeps d es fs n m) wher
   keeps-effect e h =
       let o = d .owner in
       let p = d .problem in
-      let t = and-parts (going-on d) (takes-effects o) (sym (entering.effect-may-stand d (e .change)) ∙ h .0) .1 in
-      (lawful-next d (effect e) (k .0) h,
-       (k .1 .0 ∙ ap expression-depths (sym (effect-expressions o e p)),
-        (k .1 .1 .0 ∙ ap formula-depths (sym (effect-formulas o e p)),
-         (ap (λ i. i + 1) (k .1 .1 .1 .0) ∙ sym (effects-entered d e (k .0 .2) t), (k .1 .1 .1 .1 .0 ∙ sym (effect-rates o e p), tt)))))
+      let t = and-parts (going-on d) (takes-effects o) (sym (entering.effect-may-stand d (e .change)) ∙ h .0) .1 in (
+        lawful-next d (effect e) (k .0) h,
+        (
+          k .1 .0 ∙ ap expression-depths (sym (effect-expressions o e p)),
+          (
+            k .1 .1 .0 ∙ ap formula-depths (sym (effect-formulas o e p)),
+            (ap (λ i. i + 1) (k .1 .1 .1 .0) ∙ sym (effects-entered d e (k .0 .2) t), (k .1 .1 .1 .1 .0 ∙ sym (effect-rates o e p), tt)),
+          ),
+        ),
+      )
 
   pub keeps-rate : (r : Rate) → Passes d (rate r) → Keeps (entered d (rate r)) es fs n (m + 1)
   keeps-rate r h =
-      let t = and-parts (going-on d) (takes-rates (d .owner)) (h .0) .1 in
-      (lawful-next d (rate r) (k .0) h,
-       (k .1 .0, (k .1 .1 .0, (k .1 .1 .1 .0, (ap (λ i. i + 1) (k .1 .1 .1 .1 .0) ∙ sym (rates-entered d r (k .0 .2) t), tt)))))
+      let t = and-parts (going-on d) (takes-rates (d .owner)) (h .0) .1 in (
+        lawful-next d (rate r) (k .0) h,
+        (k .1 .0, (k .1 .1 .0, (k .1 .1 .1 .0, (ap (λ i. i + 1) (k .1 .1 .1 .1 .0) ∙ sym (rates-entered d r (k .0 .2) t), tt)))),
+      )
 
   pub keeps-goal : (f : ℕ) → Passes d (goal f) → Keeps (entered d (goal f)) es fs n m
   keeps-goal f h = (lawful-next d (goal f) (k .0) h, k .1)

@@ -19,7 +19,7 @@ module _ {X Y : Type 0} (f : X → Y) (g : Y → Y) (xs : List X) (n : ℕ) (x w
       let l : n ≡ length (map f xs) = size ∙ sym (length-map xs f) in
       let p : 0 < length (map f xs) = omega arith in
       let q : on-last g (map f xs) ≡ set (map f xs) (n - 1) (g (getD (map f xs) (n - 1) (f x))) =
-        subst (λ (m : ℕ). on-last g (map f xs) ≡ set (map f xs) (m - 1) (g (getD (map f xs) (m - 1) (f x)))) (sym l) (on-last-set g (map f xs) (f x) p) in
+      subst (λ (m : ℕ). on-last g (map f xs) ≡ set (map f xs) (m - 1) (g (getD (map f xs) (m - 1) (f x)))) (sym l) (on-last-set g (map f xs) (f x) p) in
       map-set f xs (n - 1) w ∙ ap (set (map f xs) (n - 1)) (e ∙ ap g (sym seen-last)) ∙ sym q
 
   same : f w ≡ f x → map f (set xs (n - 1) w) ≡ map f xs

@@ -8,7 +8,7 @@ use Rattle.std.proofs.shelf.Lists.{at-drop-more, at-drop-all, getD-read}
 
 -- F says whether all elements pass the test; what is left passes exactly if all do
 module _ {X : Type 0} (F : List X → Bool) (test : X → Bool) (none : F [] ≡ true) (more : (x : X) (xs : List X) → F (x ∷ xs) ≡ (test x && F xs))
-  (xs : List X) (i : ℕ) (left : F (drop i xs) ≡ F xs) where
+    (xs : List X) (i : ℕ) (left : F (drop i xs) ≡ F xs) where
   here : (x : X) → i < length xs → x ≡ getD xs i x → (test x && F (drop (i + 1) xs)) ≡ F xs
   here x l is = sym (more x (drop (i + 1) xs)) ∙ sym (at-drop-more F xs i x l ∙ ap (λ y. F (y ∷ drop (i + 1) xs)) (sym is)) ∙ left
 

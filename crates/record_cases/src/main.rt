@@ -82,11 +82,20 @@ fn added(rt: &LibcRuntime, bytes: &[u8]) -> Result<Answer, AnyError> {
     }
 }
 
-fn print_answer(rt: &LibcRuntime, how: &str, answer: &Answer, bytes: &[u8]) -> Result<(), AnyError> {
+fn print_answer(
+    rt: &LibcRuntime,
+    how: &str,
+    answer: &Answer,
+    bytes: &[u8],
+) -> Result<(), AnyError> {
     match answer {
         Answer::Problem(written) => {
             let size = written.len();
-            let order = if written.as_slice() == bytes { "same" } else { "reordered" };
+            let order = if written.as_slice() == bytes {
+                "same"
+            } else {
+                "reordered"
+            };
             print!(rt, " {how} ok {size} {order}")?;
         }
         Answer::Refused(number, place) => print!(rt, " {how} refused {number} {place}")?,
@@ -99,7 +108,12 @@ fn run(rt: &LibcRuntime) -> Result<(), AnyError> {
     for name in from_utf8(cases.as_slice())?.lines() {
         let bytes = first_bytes(rt, name)?;
         rt.print(name)?;
-        print_answer(rt, "loaded", &loaded(rt, bytes.as_slice())?, bytes.as_slice())?;
+        print_answer(
+            rt,
+            "loaded",
+            &loaded(rt, bytes.as_slice())?,
+            bytes.as_slice(),
+        )?;
         print_answer(rt, "added", &added(rt, bytes.as_slice())?, bytes.as_slice())?;
         println!(rt)?;
     }

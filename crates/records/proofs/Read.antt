@@ -22,9 +22,9 @@ pub fits-read : (n : ℕ) (o : Option Kind) (k : Kind) → Some k ≡ fitting n 
 fits-read n None k h = let z : _≡_ {A = ℕ} 0 1 = cc in absurd (omega arith)
 fits-read n (Some j) k h = go (body-fits j n) refl h
   where
-  go : (b : Bool) → body-fits j n ≡ b → Some k ≡ cond b (Some j) None → body-fits k n ≡ true
-  go true e t = let same : k ≡ j = cc in ap (λ i. body-fits i n) same ∙ e
-  go false e t = let z : _≡_ {A = ℕ} 0 1 = cc in absurd (omega arith)
+    go : (b : Bool) → body-fits j n ≡ b → Some k ≡ cond b (Some j) None → body-fits k n ≡ true
+    go true e t = let same : k ≡ j = cc in ap (λ i. body-fits i n) same ∙ e
+    go false e t = let z : _≡_ {A = ℕ} 0 1 = cc in absurd (omega arith)
 
 -- an entry that is made of what is read, if anything
 made : {X : Type 0} (f : X → Entry) (k : Kind) (o : Option X) → ((x : X) → o ≡ Some x → kind (f x) ≡ k) → (e : Entry) → Some e ≡ mapped f o → kind e ≡ k
@@ -34,9 +34,9 @@ made f k (Some x) h e t = let same : e ≡ f x = cc in ap kind same ∙ h x refl
 set-kind : (b to : ℕ) (c : Change) → set-read b to ≡ Some c → change-kind c ≡ kinds.BitEffect
 set-kind b to c h = go (flag to) h
   where
-  go : (o : Option Bool) → mapped (Set b) o ≡ Some c → change-kind c ≡ kinds.BitEffect
-  go None t = let z : _≡_ {A = ℕ} 0 1 = cc in absurd (omega arith)
-  go (Some v) t = let same : Set b v ≡ c = cc in sym (ap change-kind same)
+    go : (o : Option Bool) → mapped (Set b) o ≡ Some c → change-kind c ≡ kinds.BitEffect
+    go None t = let z : _≡_ {A = ℕ} 0 1 = cc in absurd (omega arith)
+    go (Some v) t = let same : Set b v ≡ c = cc in sym (ap change-kind same)
 
 -- the first test of a chain that passes decides
 chosen : (P : Change → Type 0) (c : Change) (b : Bool) (x : Change) (rest : Option Change) → P x → (rest ≡ Some c → P c) → cond b (Some x) rest ≡ Some c → P c

@@ -25,12 +25,12 @@ use Rattle.records.specs.Loaded.{with-record, onward, taken, all-taken, finish
 whole-shorter : (len code : ℕ) (xs : List ℕ) (r : Raw) → whole len code xs ≡ Some r → length (r .rest) ≤ length xs
 whole-shorter len code xs r h = go (leb 2 len) (leb (len - 2) (length xs)) h
   where
-  go : (a b : Bool) → cond a (cond b (Some (record { code = code; body = take (len - 2) xs; rest = drop (len - 2) xs })) None) None ≡ Some r → length (r .rest) ≤ length xs
-  go true true t =
-      let e : drop (len - 2) xs ≡ r .rest = cc in
-      omega (arith, length-drop (len - 2) xs, ap length e)
-  go true false t = let z : _≡_ {A = ℕ} 0 1 = cc in absurd (omega arith)
-  go false b t = let z : _≡_ {A = ℕ} 0 1 = cc in absurd (omega arith)
+    go : (a b : Bool) → cond a (cond b (Some (record { code = code; body = take (len - 2) xs; rest = drop (len - 2) xs })) None) None ≡ Some r → length (r .rest) ≤ length xs
+    go true true t =
+        let e : drop (len - 2) xs ≡ r .rest = cc in
+        omega (arith, length-drop (len - 2) xs, ap length e)
+    go true false t = let z : _≡_ {A = ℕ} 0 1 = cc in absurd (omega arith)
+    go false b t = let z : _≡_ {A = ℕ} 0 1 = cc in absurd (omega arith)
 
 pub first-shorter : (xs : List ℕ) (r : Raw) → first xs ≡ Some r → length (r .rest) < length xs
 first-shorter [] r h = let z : _≡_ {A = ℕ} 0 1 = cc in absurd (omega arith)
@@ -41,12 +41,12 @@ first-shorter (a ∷ b ∷ c ∷ d ∷ xs) r h = omega (arith, whole-shorter (pa
 
 -- what takes the bytes behind the first record may be exchanged for what takes fewer bytes alike
 onward-same : (next next′ : Draft → List ℕ → Result Draft Fault) (ys : List ℕ) → ((d : Draft) → next d ys ≡ next′ d ys)
-  → (o : Result Draft Fault) → onward next o ys ≡ onward next′ o ys
+    → (o : Result Draft Fault) → onward next o ys ≡ onward next′ o ys
 onward-same next next′ ys h (Ok d) = h d
 onward-same next next′ ys h (Err f) = refl
 
 taken-same : (next next′ : Draft → List ℕ → Result Draft Fault) (xs : List ℕ) → ((d : Draft) (ys : List ℕ) → length ys < length xs → next d ys ≡ next′ d ys)
-  → (d : Draft) (at : ℕ) (o : Option Raw) → first xs ≡ o → taken next d at o ≡ taken next′ d at o
+    → (d : Draft) (at : ℕ) (o : Option Raw) → first xs ≡ o → taken next d at o ≡ taken next′ d at o
 taken-same next next′ xs h d at None e = refl
 taken-same next next′ xs h d at (Some r) e =
     onward-same next next′ (r .rest) (λ d′. h d′ (r .rest) (first-shorter xs r e)) (with-record d at (r .code) (r .body))
@@ -66,7 +66,7 @@ enough (suc n) (suc m) size d (b ∷ xs) h k =
 
 -- bytes that are left are taken by their first record
 all-front : (size : ℕ) (d : Draft) (xs : List ℕ) → 0 < length xs
-  → (n : ℕ) × (length xs ≡ suc n) × (all-taken (length xs) size d xs ≡ taken (all-taken n size) d (size - length xs) (first xs))
+    → (n : ℕ) × (length xs ≡ suc n) × (all-taken (length xs) size d xs ≡ taken (all-taken n size) d (size - length xs) (first xs))
 unfolding all-taken
 all-front size d [] h = absurd (omega arith)
 all-front size d (b ∷ xs) h = (length xs, refl, refl)
@@ -90,12 +90,12 @@ module _ (size : ℕ) (d : Draft) (xs : List ℕ) (some : 0 < length xs) where
 
     -- a record that is taken
     pub taken-more : (d′ : Draft) → with-record d (size - length xs) (r .code) (r .body) ≡ Ok d′
-      → all-taken (length (r .rest)) size d′ (r .rest) ≡ all-taken (length xs) size d xs
+        → all-taken (length (r .rest)) size d′ (r .rest) ≡ all-taken (length xs) size d xs
     taken-more d′ e =
         let p = all-front size d xs some in
         let l = first-shorter xs r is in
         sym (p .2 ∙ ap (taken (all-taken (p .0) size) d (size - length xs)) is ∙ ap (λ o. onward (all-taken (p .0) size) o (r .rest)) e
-          ∙ enough (p .0) (length (r .rest)) size d′ (r .rest) (omega (arith, p .1)) (omega arith))
+        ∙ enough (p .0) (length (r .rest)) size d′ (r .rest) (omega (arith, p .1)) (omega arith))
 
 -- bytes that are not empty
 pub some-left : (n : ℕ) → false ≡ eqb n 0 → 0 < n
@@ -115,9 +115,9 @@ refused-on o o′ Memory h r = tt
 pub loaded-ended : (o : Result Draft Fault) (d : Draft) → finished o ≡ Ok d → d .ended ≡ true
 loaded-ended (Ok d′) d h = go (d′ .ended) refl h
   where
-  go : (b : Bool) → d′ .ended ≡ b → refused-or (ask b (row-fault Goal d′) None) d′ ≡ Ok d → d .ended ≡ true
-  go true e t = let same : d′ ≡ d = cc in sym (ap (λ x. x .ended) same) ∙ e
-  go false e t = let z : _≡_ {A = ℕ} 0 1 = cc in absurd (omega arith)
+    go : (b : Bool) → d′ .ended ≡ b → refused-or (ask b (row-fault Goal d′) None) d′ ≡ Ok d → d .ended ≡ true
+    go true e t = let same : d′ ≡ d = cc in sym (ap (λ x. x .ended) same) ∙ e
+    go false e t = let z : _≡_ {A = ℕ} 0 1 = cc in absurd (omega arith)
 loaded-ended (Err f) d h = let z : _≡_ {A = ℕ} 0 1 = cc in absurd (omega arith)
 
 pub ended-sealed : (d : Draft) → d .ended ≡ true → sealed d ≡ None → ⊥

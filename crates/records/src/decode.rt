@@ -63,7 +63,11 @@ pub fn kind_read(code: u16, len: usize) -> Option<Kind>
     ensures { λ r. ⌜ r ≡ kind-read code len ⌝ }
 {
     let kind = kind_coded(code)?;
-    if body_fits(kind, len) { Some(kind) } else { None }
+    if body_fits(kind, len) {
+        Some(kind)
+    } else {
+        None
+    }
 }
 
 // The two bytes at a place of a body.
@@ -100,7 +104,11 @@ fn expression(body: &[u8]) -> Option<Expression>
     let b = field(body, 4);
     match field(body, 0) {
         0 => Some(Expression::Constant(value(body, 2))),
-        1 => if b == 0 { Some(Expression::Number(a)) } else { None },
+        1 => if b == 0 {
+            Some(Expression::Number(a))
+        } else {
+            None
+        },
         2 => Some(Expression::Sum(a, b)),
         3 => Some(Expression::Difference(a, b)),
         4 => Some(Expression::Product(a, b)),
@@ -119,7 +127,11 @@ fn formula(operation: u16, a: u16, b: u16) -> Option<Formula>
     ensures { λ r. ⌜ r ≡ formula-read operation a b ⌝ }
 {
     match operation {
-        0 => if a == 0 && b == 0 { Some(Formula::True) } else { None },
+        0 => if a == 0 && b == 0 {
+            Some(Formula::True)
+        } else {
+            None
+        },
         1 => alone(Formula::Bit(a), b),
         2 => alone(Formula::Compare(Comparison::AtMost, a), b),
         3 => alone(Formula::Compare(Comparison::Less, a), b),
@@ -180,12 +192,21 @@ pub fn decode(kind: Kind, body: &[u8]) -> Option<Entry<'_>>
             Some(f) => Some(Entry::Formula(f)),
             None => None,
         },
-        Kind::Action => Some(Entry::Action { condition: field(body, 0), name: &body[2..] }),
+        Kind::Action => Some(Entry::Action {
+            condition: field(body, 0),
+            name: &body[2..],
+        }),
         Kind::Event => Some(Entry::Event(field(body, 0))),
         Kind::Process => Some(Entry::Process(field(body, 0))),
         Kind::BitEffect => effect(field(body, 0), set(field(body, 2), field(body, 4))),
-        Kind::NumberEffect => effect(field(body, 0), change(field(body, 2), field(body, 4), field(body, 6))),
-        Kind::Rate => Some(Entry::Rate(Rate { number: field(body, 0), expression: field(body, 2) })),
+        Kind::NumberEffect => effect(
+            field(body, 0),
+            change(field(body, 2), field(body, 4), field(body, 6)),
+        ),
+        Kind::Rate => Some(Entry::Rate(Rate {
+            number: field(body, 0),
+            expression: field(body, 2),
+        })),
         Kind::Goal => Some(Entry::Goal(field(body, 0))),
     }
 }

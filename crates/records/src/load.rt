@@ -25,7 +25,10 @@ use table::sealed::Table;
 fn not_whole(at: usize) -> Fault
     ensures { λ r. ⌜ r ≡ record-fault Whole at ⌝ }
 {
-    Fault::Record(RecordFault { question: RecordQuestion::Whole, at })
+    Fault::Record(RecordFault {
+        question: RecordQuestion::Whole,
+        at,
+    })
 }
 
 // Takes a record that begins at the byte `at`, or refuses it and leaves the draft as it was.
@@ -33,7 +36,10 @@ fn take(draft: &mut Draft, at: usize, code: u16, body: &[u8]) -> Result<(), Faul
     ensures { λ r. ⌜ Tells (with-record (seen (now (draft .entry))) at code (now (body .entry))) (seen (now (draft .entry))) r (seen (now (draft .exit))) ⌝ }
 {
     let Some(kind) = kind_read(code, body.len()) else {
-        return Err(Fault::Record(RecordFault { question: RecordQuestion::Kind, at }));
+        return Err(Fault::Record(RecordFault {
+            question: RecordQuestion::Kind,
+            at,
+        }));
     };
     draft.ask_kind(kind, at)?;
     let Some(entry) = decode(kind, body) else {

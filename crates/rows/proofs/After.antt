@@ -8,7 +8,7 @@ use Rattle.rows.specs.After.{each-after}
 
 -- one element more at the end
 pub each-push : {X : Type 0} (may : List X → X → Bool) (before xs : List X) (x : X)
-  → each-after may before xs ≡ true → may (before ++ xs) x ≡ true → each-after may before (xs ++ x ∷ []) ≡ true
+    → each-after may before xs ≡ true → may (before ++ xs) x ≡ true → each-after may before (xs ++ x ∷ []) ≡ true
 each-push may before [] x h m = and-from (may before x) true (subst (λ l. may l x ≡ true) (append-nil before) m) refl
 each-push may before (y ∷ xs) x h m =
     let p = and-parts (may before y) (each-after may (before ++ y ∷ []) xs) h in
@@ -17,7 +17,7 @@ each-push may before (y ∷ xs) x h m =
 
 -- a test that passes wherever another does
 pub each-weaker : {X : Type 0} (may might : List X → X → Bool) → ((before : List X) (x : X) → may before x ≡ true → might before x ≡ true)
-  → (before xs : List X) → each-after may before xs ≡ true → each-after might before xs ≡ true
+    → (before xs : List X) → each-after may before xs ≡ true → each-after might before xs ≡ true
 each-weaker may might w before [] h = refl
 each-weaker may might w before (x ∷ xs) h =
     let p = and-parts (may before x) (each-after may (before ++ x ∷ []) xs) h in

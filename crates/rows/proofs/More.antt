@@ -46,23 +46,23 @@ formulas-more b e b′ e′ fs l m h =
     (λ before f. formula-more b b′ e e′ (length before) f l m) [] fs h
 
 pub expressions-push : (n k : ℕ) (es : List Expression) (e : Expression) → k ≡ length es
-  → lawful-expressions n es ≡ true → expression-stands n k e ≡ true → lawful-expressions n (es ++ e ∷ []) ≡ true
+    → lawful-expressions n es ≡ true → expression-stands n k e ≡ true → lawful-expressions n (es ++ e ∷ []) ≡ true
 expressions-push n k es e is h s =
     each-push (λ before x. expression-stands n (length before) x) [] es e h (subst (λ i. expression-stands n i e ≡ true) is s)
 
 pub formulas-push : (b e k : ℕ) (fs : List Formula) (f : Formula) → k ≡ length fs
-  → lawful-formulas b e fs ≡ true → formula-stands b e k f ≡ true → lawful-formulas b e (fs ++ f ∷ []) ≡ true
+    → lawful-formulas b e fs ≡ true → formula-stands b e k f ≡ true → lawful-formulas b e (fs ++ f ∷ []) ≡ true
 formulas-push b e k fs f is h s =
     each-push (λ before x. formula-stands b e (length before) x) [] fs f h (subst (λ i. formula-stands b e i f ≡ true) is s)
 
 -- the same where a row is added only if b
 pub expressions-pushed : (n k : ℕ) (b : Bool) (es : List Expression) (e : Expression) → k ≡ length es
-  → lawful-expressions n es ≡ true → expression-stands n k e ≡ true → lawful-expressions n (cond b (es ++ e ∷ []) es) ≡ true
+    → lawful-expressions n es ≡ true → expression-stands n k e ≡ true → lawful-expressions n (cond b (es ++ e ∷ []) es) ≡ true
 expressions-pushed n k true es e is h s = expressions-push n k es e is h s
 expressions-pushed n k false es e is h s = h
 
 pub formulas-pushed : (b e k : ℕ) (t : Bool) (fs : List Formula) (f : Formula) → k ≡ length fs
-  → lawful-formulas b e fs ≡ true → formula-stands b e k f ≡ true → lawful-formulas b e (cond t (fs ++ f ∷ []) fs) ≡ true
+    → lawful-formulas b e fs ≡ true → formula-stands b e k f ≡ true → lawful-formulas b e (cond t (fs ++ f ∷ []) fs) ≡ true
 formulas-pushed b e k true fs f is h s = formulas-push b e k fs f is h s
 formulas-pushed b e k false fs f is h s = h
 

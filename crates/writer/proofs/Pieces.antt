@@ -20,7 +20,7 @@ joined-map f g (x ∷ xs) = ap (λ l. f (g x) ++ l) (joined-map f g xs)
 
 -- an owner's record, and behind it what belongs to the owner
 pub owner-put : {X : Type 0} (f : Entry → List ℕ) (g : X → Entry) (e : Entry) (xs ys : List X) (old : List ℕ) {mid end : List ℕ}
-  → mid ≡ old ++ f e → end ≡ mid ++ joined (λ x. f (g x)) ys → ys ≡ xs → end ≡ old ++ joined f (e ∷ map g xs)
+    → mid ≡ old ++ f e → end ≡ mid ++ joined (λ x. f (g x)) ys → ys ≡ xs → end ≡ old ++ joined f (e ∷ map g xs)
 owner-put f g e xs ys old a b s =
     behind old (f e) (joined (λ x. f (g x)) ys) a b ∙ ap (λ l. old ++ (f e ++ l)) (joined-map f g ys ∙ ap (λ l. joined f (map g l)) s)
 
@@ -43,7 +43,7 @@ module _ (f : Entry → List ℕ) (old : List ℕ) {mid : List ℕ} where
 
   -- some entries for each element
   pub owners-put : {X Y : Type 0} (h : Y → List Entry) (g : X → Y) (xs ys : List X) → mid ≡ old ++ joined (λ x. joined f (h (g x))) ys → ys ≡ xs
-    → mid ≡ old ++ joined f (joined h (map g xs))
+      → mid ≡ old ++ joined f (joined h (map g xs))
   owners-put h g xs ys a s =
       a ∙ ap (λ l. old ++ l) (joined-joined f (λ x. h (g x)) ys ∙ ap (joined f) (joined-map h g ys ∙ ap (λ l. joined h (map g l)) s))
 

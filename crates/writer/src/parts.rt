@@ -46,7 +46,12 @@ pub impl Put for Expression as ExpressionPut {
 
     fn put(&self, out: &mut Vec<u8>) -> Result<(), AllocError> {
         match *self {
-            Expression::Constant(value) => put_record(out, Kind::Expression, &[0], &value.to_le_bytes()),
+            Expression::Constant(value) => put_record(
+                out,
+                Kind::Expression,
+                &[0],
+                &value.to_le_bytes(),
+            ),
             Expression::Number(n) => put_record(out, Kind::Expression, &[1, n, 0], &[]),
             Expression::Sum(a, b) => put_record(out, Kind::Expression, &[2, a, b], &[]),
             Expression::Difference(a, b) => put_record(out, Kind::Expression, &[3, a, b], &[]),
@@ -74,7 +79,12 @@ pub impl Put for Formula as FormulaPut {
         match *self {
             Formula::True => put_record(out, Kind::Formula, &[0, 0, 0], &[]),
             Formula::Bit(b) => put_record(out, Kind::Formula, &[1, b, 0], &[]),
-            Formula::Compare(how, e) => put_record(out, Kind::Formula, &[comparison_number(how), e, 0], &[]),
+            Formula::Compare(how, e) => put_record(
+                out,
+                Kind::Formula,
+                &[comparison_number(how), e, 0],
+                &[],
+            ),
             Formula::Not(f) => put_record(out, Kind::Formula, &[7, f, 0], &[]),
             Formula::And(f, g) => put_record(out, Kind::Formula, &[8, f, g], &[]),
             Formula::Or(f, g) => put_record(out, Kind::Formula, &[9, f, g], &[]),
@@ -88,10 +98,25 @@ pub impl Put for Effect as EffectPut {
     fn put(&self, out: &mut Vec<u8>) -> Result<(), AllocError> {
         let condition = self.condition;
         match self.change {
-            Change::Set(b, to) => put_record(out, Kind::BitEffect, &[condition, b, if to { 1 } else { 0 }], &[]),
+            Change::Set(b, to) => put_record(
+                out,
+                Kind::BitEffect,
+                &[condition, b, if to { 1 } else { 0 }],
+                &[],
+            ),
             Change::Assign(n, e) => put_record(out, Kind::NumberEffect, &[condition, 0, n, e], &[]),
-            Change::Increase(n, e) => put_record(out, Kind::NumberEffect, &[condition, 1, n, e], &[]),
-            Change::Decrease(n, e) => put_record(out, Kind::NumberEffect, &[condition, 2, n, e], &[]),
+            Change::Increase(n, e) => put_record(
+                out,
+                Kind::NumberEffect,
+                &[condition, 1, n, e],
+                &[],
+            ),
+            Change::Decrease(n, e) => put_record(
+                out,
+                Kind::NumberEffect,
+                &[condition, 2, n, e],
+                &[],
+            ),
         }
     }
 }

@@ -57,7 +57,12 @@ fn code(kind: Kind) -> usize
 }
 
 // A record: its length, its kind, its fields, and behind them a value's bytes or a name's letters.
-pub fn put_record(out: &mut Vec<u8>, kind: Kind, fields: &[u16], tail: &[u8]) -> Result<(), AllocError>
+pub fn put_record(
+    out: &mut Vec<u8>,
+    kind: Kind,
+    fields: &[u16],
+    tail: &[u8],
+) -> Result<(), AllocError>
     ensures { λ r. ⌜ made r (λ _. vec-items (now (out .exit)) ≡ vec-items (now (out .entry)) ++ record-bytes kind (now (fields .entry)) (now (tail .entry))) ⌝ }
 {
     put_pair(out, 2 + (fields.len() * 2 + tail.len()))?;

@@ -28,16 +28,27 @@ use rows::rows::asks::in_range;
 use table::contents::Action;
 
 const MOST_BITS: usize = 64;
+
 const MOST_NUMBERS: usize = 32;
+
 const MOST_EXPRESSIONS: usize = 1024;
+
 const MOST_FORMULAS: usize = 1024;
+
 const MOST_ACTIONS: usize = 64;
+
 const MOST_EVENTS: usize = 32;
+
 const MOST_PROCESSES: usize = 32;
+
 const MOST_EFFECTS: usize = 512;
+
 const MOST_RATES: usize = 64;
+
 const LONGEST_TICK: u16 = 1000;
+
 const LONGEST_NAME: usize = 24;
+
 const DEEPEST: u16 = 12;
 
 // a to z, 0 to 9, hyphen and underscore.
@@ -98,7 +109,11 @@ pub(crate) fn expression_depth(depths: &[u8], expression: Expression) -> u16
     match expression {
         Expression::Constant(_) => 1,
         Expression::Number(_) => 1,
-        Expression::Sum(a, b) | Expression::Difference(a, b) | Expression::Product(a, b) => above(depths, a, b),
+        Expression::Sum(a, b) | Expression::Difference(a, b) | Expression::Product(a, b) => above(
+            depths,
+            a,
+            b,
+        ),
     }
 }
 
@@ -167,7 +182,12 @@ impl Draft {
         ensures value { λ r. ⌜ r ≡ records-of (seen (now (self .entry))) ⌝ }
         ensures bound { λ r. ⌜ r ≤ 2850 ⌝ }
     {
-        usize::from(self.begun) + self.rows() + self.owners() + self.effects + self.rates + usize::from(self.ended)
+        usize::from(self.begun)
+            + self.rows()
+            + self.owners()
+            + self.effects
+            + self.rates
+            + usize::from(self.ended)
     }
 
     // Whether records behind the head and before the goal may come.
@@ -242,7 +262,10 @@ impl Draft {
     pub fn row_fault(&self, question: RowQuestion) -> Fault
         ensures { λ r. ⌜ r ≡ row-fault question (seen (now (self .entry))) ⌝ }
     {
-        Fault::Row(RowFault { question, count: self.records() + 1 })
+        Fault::Row(RowFault {
+            question,
+            count: self.records() + 1,
+        })
     }
 
     // What is asked of a record's kind alone, where the record begins at the byte `at`: may it stand here, and is its limit kept?
@@ -250,7 +273,10 @@ impl Draft {
         ensures { λ r. ⌜ fault r ≡ kind-refused (seen (now (self .entry))) at kind ⌝ }
     {
         if !self.may_stand(kind) {
-            return Err(Fault::Record(RecordFault { question: RecordQuestion::Order, at }));
+            return Err(Fault::Record(RecordFault {
+                question: RecordQuestion::Order,
+                at,
+            }));
         }
         if !self.has_room(kind) {
             return Err(self.row_fault(RowQuestion::Limit));
@@ -290,9 +316,13 @@ impl Draft {
             Entry::Head(_) => true,
             Entry::Bit(_) => true,
             Entry::Number(_) => true,
-            Entry::Expression(e) => expression_depth(self.expression_depths.as_slice(), e) <= DEEPEST,
+            Entry::Expression(e) => expression_depth(self.expression_depths.as_slice(), e)
+                <= DEEPEST,
             Entry::Formula(f) => formula_depth(self.formula_depths.as_slice(), f) <= DEEPEST,
-            Entry::Action { condition: _, name: _ } => true,
+            Entry::Action {
+                condition: _,
+                name: _,
+            } => true,
             Entry::Event(_) => true,
             Entry::Process(_) => true,
             Entry::Effect(_) => true,
@@ -310,7 +340,10 @@ impl Draft {
             Entry::Number(_) => true,
             Entry::Expression(_) => true,
             Entry::Formula(_) => true,
-            Entry::Action { condition: _, name } => is_new_name(self.contents.actions.as_slice(), name),
+            Entry::Action { condition: _, name } => is_new_name(
+                self.contents.actions.as_slice(),
+                name,
+            ),
             Entry::Event(_) => true,
             Entry::Process(_) => true,
             Entry::Effect(_) => true,

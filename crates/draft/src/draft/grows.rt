@@ -53,25 +53,43 @@ pub(crate) fn push_formula(c: &mut Contents, formula: Formula) -> Result<(), All
     c.rows.add_formula(formula)
 }
 
-pub(crate) fn push_action(c: &mut Contents, heap: Global, condition: u16, name: &[u8]) -> Result<(), AllocError>
+pub(crate) fn push_action(
+    c: &mut Contents,
+    heap: Global,
+    condition: u16,
+    name: &[u8],
+) -> Result<(), AllocError>
     ensures { λ r. ⌜ problem-of (now (c .exit)) ≡ cond (isOk r) (with-actions (problem-of (now (c .entry)) .actions ++ record { name = now (name .entry); condition = condition; effects = [] } ∷ []) (problem-of (now (c .entry)))) (problem-of (now (c .entry))) ⌝ }
 {
     let name = Vec::from_slice(heap, name)?;
-    c.actions.push(Action { name, condition, effects: Vec::new(heap) })?;
+    c.actions
+        .push(Action {
+            name,
+            condition,
+            effects: Vec::new(heap),
+        })?;
     Ok(())
 }
 
 pub(crate) fn push_event(c: &mut Contents, heap: Global, condition: u16) -> Result<(), AllocError>
     ensures { λ r. ⌜ problem-of (now (c .exit)) ≡ cond (isOk r) (with-events (problem-of (now (c .entry)) .events ++ record { condition = condition; effects = [] } ∷ []) (problem-of (now (c .entry)))) (problem-of (now (c .entry))) ⌝ }
 {
-    c.events.push(Event { condition, effects: Vec::new(heap) })?;
+    c.events
+        .push(Event {
+            condition,
+            effects: Vec::new(heap),
+        })?;
     Ok(())
 }
 
 pub(crate) fn push_process(c: &mut Contents, heap: Global, condition: u16) -> Result<(), AllocError>
     ensures { λ r. ⌜ problem-of (now (c .exit)) ≡ cond (isOk r) (with-processes (problem-of (now (c .entry)) .processes ++ record { condition = condition; rates = [] } ∷ []) (problem-of (now (c .entry)))) (problem-of (now (c .entry))) ⌝ }
 {
-    c.processes.push(Process { condition, rates: Vec::new(heap) })?;
+    c.processes
+        .push(Process {
+            condition,
+            rates: Vec::new(heap),
+        })?;
     Ok(())
 }
 
@@ -94,7 +112,11 @@ fn push_event_effect(c: &mut Contents, effect: Effect) -> Result<(), AllocError>
 }
 
 // An effect goes to the last owner; a process, or no owner, takes none.
-pub(crate) fn push_effect(c: &mut Contents, owner: Option<Owner>, effect: Effect) -> Result<(), AllocError>
+pub(crate) fn push_effect(
+    c: &mut Contents,
+    owner: Option<Owner>,
+    effect: Effect,
+) -> Result<(), AllocError>
     requires { ⌜ owner-stands owner (problem-of (now c)) ≡ true ⌝ }
     ensures { λ r. ⌜ problem-of (now (c .exit)) ≡ cond (isOk r) (with-effect owner effect (problem-of (now (c .entry)))) (problem-of (now (c .entry))) ⌝ }
 {

@@ -44,7 +44,11 @@ impl Draft {
     pub fn ask_seal(&self) -> Result<(), Fault>
         ensures { λ r. ⌜ fault r ≡ seal-refused (seen (now (self .entry))) ⌝ }
     {
-        if self.ended { Ok(()) } else { Err(self.row_fault(RowQuestion::Goal)) }
+        if self.ended {
+            Ok(())
+        } else {
+            Err(self.row_fault(RowQuestion::Goal))
+        }
     }
 
     // The table of a draft whose goal has come; any other draft is handed back as it was.
@@ -54,7 +58,17 @@ impl Draft {
         if !self.ended {
             return Err(self);
         }
-        let Draft { heap: _, contents, expression_depths: _, formula_depths: _, effects: _, rates: _, owner: _, begun: _, ended: _ } = self;
+        let Draft {
+            heap: _,
+            contents,
+            expression_depths: _,
+            formula_depths: _,
+            effects: _,
+            rates: _,
+            owner: _,
+            begun: _,
+            ended: _,
+        } = self;
         Ok(Table::new(contents))
     }
 }

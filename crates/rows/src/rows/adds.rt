@@ -18,7 +18,12 @@ impl Rows {
     pub fn new(heap: Global) -> Rows
         ensures { λ r. ⌜ plain r ≡ blank ⌝ }
     {
-        Rows { bits: 0, numbers: 0, expressions: Vec::new(heap), formulas: Vec::new(heap) }
+        Rows {
+            bits: 0,
+            numbers: 0,
+            expressions: Vec::new(heap),
+            formulas: Vec::new(heap),
+        }
     }
 
     // One bit more that rows may name.

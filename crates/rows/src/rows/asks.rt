@@ -30,7 +30,8 @@ impl Rows {
         match expression {
             Expression::Constant(value) => in_range(value),
             Expression::Number(n) => (n as usize) < self.numbers,
-            Expression::Sum(a, b) | Expression::Difference(a, b) | Expression::Product(a, b) => (a as usize) < k && (b as usize) < k,
+            Expression::Sum(a, b) | Expression::Difference(a, b) | Expression::Product(a, b) =>
+                (a as usize) < k && (b as usize) < k,
         }
     }
 
@@ -57,7 +58,9 @@ impl Rows {
         }
         match effect.change {
             Change::Set(b, _) => (b as usize) < self.bits,
-            Change::Assign(n, e) | Change::Increase(n, e) | Change::Decrease(n, e) => (n as usize) < self.numbers && (e as usize) < self.expressions.len(),
+            Change::Assign(n, e) | Change::Increase(n, e) | Change::Decrease(n, e) => (n as usize)
+                < self.numbers
+                && (e as usize) < self.expressions.len(),
         }
     }
 

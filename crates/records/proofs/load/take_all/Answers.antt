@@ -33,8 +33,8 @@ returns-in-Break-take c =
     let p = err-from-errBy (c .from-residual .result) (c .from-residual .ensures .1) in
     rw (p .1)
     (refused-on (with-record d (length bytes - length left) (r .code) (r .body)) outcome (p .0)
-      (λ g e. sym (c .loop-left .inv .1) ∙ taken-refused (length bytes) d left some r is g e)
-      (subst (Refused (with-record d (length bytes - length left) (r .code) (r .body))) (sym (p .2)) (c .in-Break-take .ensures tt .0)))
+    (λ g e. sym (c .loop-left .inv .1) ∙ taken-refused (length bytes) d left some r is g e)
+    (subst (Refused (with-record d (length bytes - length left) (r .code) (r .body))) (sym (p .2)) (c .in-Break-take .ensures tt .0)))
 
 pub loop-left-less : need.loop-left-less
 loop-left-less c = first-shorter (c .loop-left .left .now) (raw (c .in-Some .record)) (sym (c .in-Some .ensures tt))

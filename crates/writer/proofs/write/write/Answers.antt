@@ -23,6 +23,6 @@ pub returns : need.returns
 returns c =
     let t = c .args .table .now in
     let e : vec-items (c .put .last .out) ≡ written (problem t) =
-      c .in-Continue-put .ensures tt ∙ ap (λ (l : List ℕ). l ++ written (problem-of (c .contents .result .now))) (c .new-out .ensures .items)
-      ∙ ap written (c .contents .ensures .value) in
+    c .in-Continue-put .ensures tt ∙ ap (λ (l : List ℕ). l ++ written (problem-of (c .contents .result .now))) (c .new-out .ensures .items)
+    ∙ ap written (c .contents .ensures .value) in
     record { bytes = e; loads-back = ap problem-loaded e ∙ loads.loads-back (problem t) (t .lawful); law = loads.loads-back }

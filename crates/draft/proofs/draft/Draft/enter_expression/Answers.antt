@@ -19,7 +19,7 @@ ghost-self-2 c =
     let fs = vec-items (s .«formula_depths») in
     let depth : c .expression-depth-depth .result ≡ expression-depth es (c .args .e) = c .expression-depth-depth .ensures ∙ ap (λ l. expression-depth l (c .args .e)) (c .as-slice .ensures .value) in
     let measured : vec-items (c .push-reserved .last .self) ≡ es ++ expression-depth es (c .args .e) ∷ [] =
-      c .push-reserved .ensures .items ∙ ap₂ (λ (l : List ℕ) (n : ℕ). l ++ n ∷ []) (c .reserve .ensures .items) depth in
+    c .push-reserved .ensures .items ∙ ap₂ (λ (l : List ℕ) (n : ℕ). l ++ n ∷ []) (c .reserve .ensures .items) depth in
     let P : List ℕ → Problem → Type 0 = λ l p. Keeps (grown d p) l fs (s .effects) (s .rates) in
     subst (λ l. P l (problem-of (c .push-expression .last .c))) (sym measured)
     (subst (P (es ++ expression-depth es (c .args .e) ∷ [])) (sym (c .in-Continue-push-expression .ensures tt)) (keeps-expression d es fs (s .effects) (s .rates) (kept s) (c .args .e) (c .pre)))
