@@ -550,7 +550,13 @@ def examples():
                                + set_bit(0, 0, 0) + formula(AND, 3, 2) + goal(4))
 
 
-SORTS = (whole, kinds, order, limits, values, letters, rows, depths, new_names, goals, pairs, examples)
+def longest():
+    """Only the first 60,000 bytes of a file count: a record that ends there is whole, one that is cut there is not."""
+    yield 'refused_2_of_60000_bytes', record(13, bytes(59_996))
+    yield 'refused_1_of_60001_bytes', record(13, bytes(59_997))
+
+
+SORTS = (whole, kinds, order, limits, values, letters, rows, depths, new_names, goals, pairs, examples, longest)
 
 
 def write_cases(folder):

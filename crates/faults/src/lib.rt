@@ -1,10 +1,9 @@
 // Why a call is refused: one enum with a case for each layer, which holds what that layer tells of the refusal.
 // Upper layers pass a fault on whole.
 ghost use mathlib.Core.Path.{_≡_};
-ghost use Rattle.faults.specs.declared.Fault.the-variants.{Record, Row, Memory};
+ghost use Rattle.faults.specs.declared.Fault.the-variants.{Memory};
 ghost use Rattle.faults.specs.Faults.{number, layer, place};
 use std::alloc::AllocError;
-use std::alloc::Refused;
 
 // The layers that refuse.
 #[derive(Clone, Copy)]
@@ -54,34 +53,10 @@ pub enum Fault {
     Memory,
 }
 
-pub impl From<RecordFault> for Fault as FaultFromRecord {
-    ghost converts = { λ f r. r ≡ Record f };
-
-    fn from(f: RecordFault) -> Fault {
-        Fault::Record(f)
-    }
-}
-
-pub impl From<RowFault> for Fault as FaultFromRow {
-    ghost converts = { λ f r. r ≡ Row f };
-
-    fn from(f: RowFault) -> Fault {
-        Fault::Row(f)
-    }
-}
-
 pub impl From<AllocError> for Fault as FaultFromAlloc {
     ghost converts = { λ _ r. r ≡ Memory };
 
     fn from(_e: AllocError) -> Fault {
-        Fault::Memory
-    }
-}
-
-pub impl<T: Drop> From<Refused<T>> for Fault as FaultFromRefused {
-    ghost converts = { λ _ r. r ≡ Memory };
-
-    fn from(_e: Refused<T>) -> Fault {
         Fault::Memory
     }
 }

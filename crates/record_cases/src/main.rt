@@ -1,5 +1,5 @@
-// Takes each file that cases.txt names, one to a line, once by Load and once record by record by Add, and prints how it is answered:
-// the number and place of its refusal, or that it is a problem. A problem is written as records again: how many bytes that gives,
+// Takes each file that cases.txt names, one to a line, once by Load, once record by record by Add, and once as one record by Add, and prints how it is answered:
+// the number and place of its refusal, or that it is a problem. A problem is written as records again: how many bytes that gives, their checksum,
 // and whether they are the file's own or those of its records in another order.
 use draft::draft::Draft;
 use faults::Fault;
@@ -52,6 +52,15 @@ fn add_all(heap: Global, bytes: &[u8]) -> Result<Option<Table>, Fault> {
     Ok(draft.seal().ok())
 }
 
+// A number that tells two lists of bytes apart, most likely: each byte added to 31 times what came before, in 32 bits.
+fn checksum(bytes: &[u8]) -> u32 {
+    let mut sum = 0u32;
+    for b in bytes {
+        sum = sum.wrapping_mul(31).wrapping_add(*b as u32);
+    }
+    sum
+}
+
 // The answer to a file, where a table is told by what it is as records.
 #[derive(Drop)]
 enum Answer {
@@ -91,14 +100,25 @@ fn print_answer(
     match answer {
         Answer::Problem(written) => {
             let size = written.len();
+            let sum = checksum(written.as_slice());
             let order = if written.as_slice() == bytes {
                 "same"
             } else {
                 "reordered"
             };
-            print!(rt, " {how} ok {size} {order}")?;
+            print!(rt, " {how} ok {size} {sum} {order}")?;
         }
         Answer::Refused(number, place) => print!(rt, " {how} refused {number} {place}")?,
+    }
+    Ok(())
+}
+
+// The bytes of a whole file as one record, which they are only where the file has one.
+fn print_alone(rt: &LibcRuntime, bytes: &[u8]) -> Result<(), AnyError> {
+    let mut draft = Draft::blank(rt.alloc());
+    match add(&mut draft, bytes) {
+        Ok(()) => print!(rt, " alone ok")?,
+        Err(fault) => print_answer(rt, "alone", &refusal(fault)?, bytes)?,
     }
     Ok(())
 }
@@ -115,6 +135,7 @@ fn run(rt: &LibcRuntime) -> Result<(), AnyError> {
             bytes.as_slice(),
         )?;
         print_answer(rt, "added", &added(rt, bytes.as_slice())?, bytes.as_slice())?;
+        print_alone(rt, bytes.as_slice())?;
         println!(rt)?;
     }
     Ok(())

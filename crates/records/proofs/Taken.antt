@@ -15,11 +15,11 @@ use Rattle.std.proofs.shelf.Tests.{eqb-true, cond-true}
 use Rattle.faults.specs.declared.Fault.the-variants.{Record, Row, Memory}
 use Rattle.faults.specs.declared.RecordQuestion.the-variants.{Whole}
 use Rattle.faults.specs.declared.RowQuestion.the-variants.{Goal}
-use Rattle.draft.specs.Draft.{Draft, sealed}
+use Rattle.draft.specs.Draft.{Draft, blank, sealed}
 use Rattle.draft.specs.Questions.{record-fault, row-fault, ask}
-use Rattle.draft.specs.Outcome.{Refused, refused-or}
+use Rattle.draft.specs.Outcome.{Refused, Refused-record, refused-or}
 use Rattle.records.specs.Bytes.{Raw, pair, first, whole}
-use Rattle.records.specs.Loaded.{with-record, onward, taken, all-taken, finished}
+use Rattle.records.specs.Loaded.{with-record, onward, taken, all-taken, finished, loaded}
 
 -- the bytes behind a record are fewer than those in front of it
 whole-shorter : (len code : ℕ) (xs : List ℕ) (r : Raw) → whole len code xs ≡ Some r → length (r .rest) ≤ length xs
@@ -105,8 +105,8 @@ some-left (suc n) h = omega arith
 pub none-left : (n : ℕ) → true ≡ eqb n 0 → n ≡ 0
 none-left n h = eqb-true n 0 (sym h)
 
--- a refusal is passed on
-pub refused-on : {X Y : Type 0} (o : Result X Fault) (o′ : Result Y Fault) (f : Fault) → ((g : Fault) → o ≡ Err g → o′ ≡ Err g) → Refused o f → Refused o′ f
+-- a refusal of a record is passed on
+pub refused-on : {X Y : Type 0} (o : Result X Fault) (o′ : Result Y Fault) (f : Fault) → ((g : Fault) → o ≡ Err g → o′ ≡ Err g) → Refused-record o f → Refused o′ f
 refused-on o o′ (Record f) h r = h (Record f) r
 refused-on o o′ (Row f) h r = h (Row f) r
 refused-on o o′ Memory h r = tt
@@ -122,3 +122,7 @@ loaded-ended (Err f) d h = let z : _≡_ {A = ℕ} 0 1 = cc in absurd (omega ari
 
 pub ended-sealed : (d : Draft) → d .ended ≡ true → sealed d ≡ None → ⊥
 ended-sealed d e h = let t = cond-true (d .ended) (Some (d .problem)) None e in let z : _≡_ {A = ℕ} 0 1 = cc in omega arith
+
+-- so a draft into which a file was loaded is sealed
+pub never-unsealed : (bytes : List ℕ) (d : Draft) → loaded bytes ≡ Ok d → sealed d ≡ None → ⊥
+never-unsealed bytes d h n = ended-sealed d (loaded-ended (all-taken (length bytes) (length bytes) blank bytes) d h) n

@@ -6,7 +6,7 @@ ghost use Rattle.std.specs.declared.result.Result.the-variants.{Ok};
 ghost use Rattle.table.specs.Lawful.{Lawful};
 ghost use Rattle.table.specs.Sealed.{problem};
 ghost use Rattle.draft.specs.Draft.{blank};
-ghost use Rattle.draft.specs.Outcome.{Tells, Refused};
+ghost use Rattle.draft.specs.Outcome.{Tells, Tells-file, Refused};
 ghost use Rattle.draft.specs.Questions.{record-fault};
 ghost use Rattle.draft.specs.Seen.{seen};
 ghost use Rattle.faults.specs.declared.RecordQuestion.the-variants.{Whole};
@@ -85,9 +85,9 @@ fn fill(draft: &mut Draft, bytes: &[u8]) -> Result<(), Fault>
     draft.ask_seal()
 }
 
-// Load: lets go of what the draft held and takes a whole file, or refuses it and leaves a blank draft.
+// Load: discards what the draft held and takes a whole file, or refuses it and leaves a blank draft.
 pub fn load(draft: &mut Draft, bytes: &[u8]) -> Result<(), Fault>
-    ensures { λ r. ⌜ Tells (loaded (now (bytes .entry))) blank r (seen (now (draft .exit))) ⌝ }
+    ensures { λ r. ⌜ Tells-file (loaded (now (bytes .entry))) blank r (seen (now (draft .exit))) ⌝ }
 {
     draft.clear();
     let outcome = fill(draft, bytes);

@@ -33,7 +33,7 @@ impl Draft {
         }
     }
 
-    // Lets go of all that the draft holds.
+    // Discards all that the draft holds.
     pub fn clear(&mut self)
         ensures { λ _. ⌜ seen (now (self .exit)) ≡ blank ⌝ }
     {

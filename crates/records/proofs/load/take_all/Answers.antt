@@ -4,7 +4,7 @@ use native.Mathlib.Omega.{arith}
 use lib.ListN.{length}
 use Rattle.std.specs.declared.result.Result.the-variants.{Err}
 use Rattle.std.proofs.shelf.Results.{err-from-errBy}
-use Rattle.draft.specs.Outcome.{Refused}
+use Rattle.draft.specs.Outcome.{Refused, Refused-record}
 use Rattle.draft.specs.Seen.{seen}
 use Rattle.records.specs.Bytes.{first}
 use Rattle.records.specs.Loaded.{with-record, all-taken}
@@ -34,7 +34,7 @@ returns-in-Break-take c =
     rw (p .1)
     (refused-on (with-record d (length bytes - length left) (r .code) (r .body)) outcome (p .0)
     (λ g e. sym (c .loop-left .inv .1) ∙ taken-refused (length bytes) d left some r is g e)
-    (subst (Refused (with-record d (length bytes - length left) (r .code) (r .body))) (sym (p .2)) (c .in-Break-take .ensures tt .0)))
+    (subst (Refused-record (with-record d (length bytes - length left) (r .code) (r .body))) (sym (p .2)) (c .in-Break-take .ensures tt .0)))
 
 pub loop-left-less : need.loop-left-less
 loop-left-less c = first-shorter (c .loop-left .left .now) (raw (c .in-Some .record)) (sym (c .in-Some .ensures tt))
