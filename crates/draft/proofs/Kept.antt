@@ -1,6 +1,6 @@
 -- What the code's draft keeps beside its rows, and that each record leaves it so.
 use mathlib.Core.Path.{_≡_, refl, sym, ap, _∙_}
-use mathlib.Core.Bool.{Bool, true, false, cond, _&&_}
+use mathlib.Core.Bool.{Bool, true, false, cond}
 use mathlib.Core.List.{List, [], _∷_, _++_}
 use Prim.Native.Nat.{ℕ, _+_}
 use native.Mathlib.Omega.{arith}
@@ -18,7 +18,7 @@ use Rattle.rows.specs.declared.row.Rate.{Rate}
 use Rattle.table.specs.Problem.{Problem}
 use Rattle.table.specs.Depth.{expression-depths, formula-depths, expression-depth, formula-depth}
 use Rattle.table.specs.Lawful.{effects-of, rates-of}
-use Rattle.draft.specs.Entry.{Entry, head, bit, number, expression, formula, action, event, process, effect, rate, goal}
+use Rattle.draft.specs.Entry.{Entry, bit, number, expression, formula, action, event, process, effect, rate}
 use Rattle.draft.specs.Draft.{Draft}
 use Rattle.draft.specs.Questions.{ask, row-fault, Passes, lawful-fields, rows-stand, shallow, name-is-new, going-on, takes-effects, takes-rates}
 use Rattle.draft.specs.Entered.{entered, with-effect}
@@ -77,9 +77,6 @@ effect-rates (Some owners.Process) e p = refl
 effect-rates None e p = refl
 
 module _ (d : Draft) (es fs : List ℕ) (n m : ℕ) (k : Keeps d es fs n m) where
-  pub keeps-head : (t : ℕ) → Passes d (head t) → Keeps (entered d (head t)) es fs n m
-  keeps-head t h = (lawful-next d (head t) (k .0) h, k .1)
-
   pub keeps-bit : (v : Bool) → Passes d (bit v) → Keeps (entered d (bit v)) es fs n m
   keeps-bit v h = (lawful-next d (bit v) (k .0) h, k .1)
 
@@ -133,9 +130,6 @@ module _ (d : Draft) (es fs : List ℕ) (n m : ℕ) (k : Keeps d es fs n m) wher
         lawful-next d (rate r) (k .0) h,
         (k .1 .0, (k .1 .1 .0, (k .1 .1 .1 .0, (ap (λ i. i + 1) (k .1 .1 .1 .1 .0) ∙ sym (rates-entered d r (k .0 .2) t), tt)))),
       )
-
-  pub keeps-goal : (f : ℕ) → Passes d (goal f) → Keeps (entered d (goal f)) es fs n m
-  keeps-goal f h = (lawful-next d (goal f) (k .0) h, k .1)
 
 -- what holds both after a record and without it
 pub either : {X : Type 0} (P : X → Type 0) (b : Bool) (x y : X) → P x → P y → P (cond b x y)

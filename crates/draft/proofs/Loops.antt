@@ -4,7 +4,7 @@ use mathlib.Core.Bool.{Bool, true, false, _&&_}
 use mathlib.Core.List.{List, [], _∷_}
 use Prim.Native.Nat.{ℕ, _+_, _<_, _≤_}
 use lib.ListN.{length, getD, drop}
-use Rattle.std.proofs.shelf.Lists.{at-drop-more, at-drop-all, getD-read}
+use Rattle.std.proofs.shelf.Lists.{at-drop-more, at-drop-all}
 
 -- F says whether all elements pass the test; what is left passes exactly if all do
 module _ {X : Type 0} (F : List X → Bool) (test : X → Bool) (none : F [] ≡ true) (more : (x : X) (xs : List X) → F (x ∷ xs) ≡ (test x && F xs))

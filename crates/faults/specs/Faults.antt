@@ -8,8 +8,6 @@ use Rattle.faults.specs.declared.RecordQuestion.{RecordQuestion}
 use Rattle.faults.specs.declared.RecordQuestion.the-variants.{Whole, Kind, Order}
 use Rattle.faults.specs.declared.RowQuestion.{RowQuestion}
 use Rattle.faults.specs.declared.RowQuestion.the-variants.{Limit, Fields, Rows, Depth, Name, Goal}
-use Rattle.faults.specs.declared.RecordFault.{RecordFault}
-use Rattle.faults.specs.declared.RowFault.{RowFault}
 use Rattle.faults.specs.declared.Fault.{Fault}
 use Rattle.faults.specs.declared.Fault.the-variants.{Record, Row, Memory}
 

@@ -14,7 +14,7 @@ use Rattle.draft.specs.Entry.{Entry, kind, change-kind, bit, expression, formul
 use Rattle.draft.specs.declared.entry.Kind.{Kind}
 use Rattle.draft.specs.declared.entry.Kind.the-variants as kinds
 use Rattle.records.specs.Bytes.{field}
-use Rattle.records.specs.Kinds.{coded, body-fits, fitting, kind-read}
+use Rattle.records.specs.Kinds.{body-fits, fitting}
 use Rattle.records.specs.Decoded.{decoded, flag, expression-read, formula-read, set-read, change-read, effect-of}
 
 -- a kind that is read fits its body's length

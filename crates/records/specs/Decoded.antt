@@ -9,13 +9,11 @@ use Rattle.std.specs.declared.option.Option.{Option}
 use Rattle.std.specs.declared.option.Option.the-variants.{Some, None}
 use Rattle.rows.specs.declared.row.Expression.{Expression}
 use Rattle.rows.specs.declared.row.Expression.the-variants as expressions
-use Rattle.rows.specs.declared.row.Comparison.{Comparison}
 use Rattle.rows.specs.declared.row.Comparison.the-variants.{AtMost, Less, Equal, Greater, AtLeast}
 use Rattle.rows.specs.declared.row.Formula.{Formula}
 use Rattle.rows.specs.declared.row.Formula.the-variants as formulas
 use Rattle.rows.specs.declared.row.Change.{Change}
 use Rattle.rows.specs.declared.row.Change.the-variants as changes
-use Rattle.rows.specs.declared.row.Effect.{Effect}
 use Rattle.draft.specs.Entry.{Entry, head, bit, number, expression, formula, action, event, process, effect, rate, goal}
 use Rattle.draft.specs.declared.entry.Kind.{Kind}
 use Rattle.draft.specs.declared.entry.Kind.the-variants as kinds

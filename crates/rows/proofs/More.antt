@@ -1,14 +1,13 @@
 -- A lawful row stays lawful where there is more to name.
-use mathlib.Core.Path.{_≡_, refl, subst, sym}
-use mathlib.Core.Bool.{Bool, true, false, _&&_, cond}
+use mathlib.Core.Path.{_≡_, refl, subst}
+use mathlib.Core.Bool.{Bool, true, false, cond}
 use mathlib.Core.List.{List, [], _∷_, _++_}
-use Prim.Native.Nat.{ℕ, _≤_, _+_}
+use Prim.Native.Nat.{ℕ, _≤_}
 use native.Mathlib.Omega.{arith}
 use lib.Dec.{ltb}
 use lib.ListN.{length}
 use Rattle.std.proofs.shelf.Tests.{and-parts, and-from}
 use Rattle.std.proofs.shelf.Ways.{tells}
-use Rattle.rows.specs.After.{each-after}
 use Rattle.rows.specs.Lawful.{expression-stands, formula-stands, lawful-expressions, lawful-formulas, Counts, change-stands, effect-stands, rate-stands}
 use Rattle.rows.specs.declared.row.Expression.{Expression}
 use Rattle.rows.specs.declared.row.Expression.the-variants.{Constant, Number, Sum, Difference, Product}

@@ -1,11 +1,7 @@
 // Each part of a problem as records.
 ghost use mathlib.Core.Path.{_≡_};
-ghost use mathlib.Core.List.{[], _∷_, _++_};
-ghost use Rattle.std.specs.Of.Vec.{vec-items};
-ghost use Rattle.std.specs.Vec.{made};
-ghost use Rattle.draft.specs.Entry.{change-kind};
 ghost use Rattle.writer.specs.Parts.{bit-bytes, number-bytes, expression-bytes, formula-bytes, effect-bytes, rate-bytes, action-bytes, event-bytes, process-bytes, contents-bytes};
-ghost use Rattle.writer.specs.Written.{comparison-number, record-bytes, change-fields};
+ghost use Rattle.writer.specs.Written.{comparison-number};
 use crate::put::Put;
 use crate::put::put_all;
 use crate::put::put_record;

@@ -1,10 +1,9 @@
 // What is asked of a record before the draft takes it; nothing is changed by asking.
 ghost use mathlib.Core.Path.{_≡_};
-ghost use mathlib.Core.List.{List, map};
-ghost use Prim.Native.Nat.{_+_, _≤_};
+ghost use mathlib.Core.List.{map};
+ghost use Prim.Native.Nat.{_≤_};
 ghost use lib.Dec.{ltb};
 ghost use lib.ListN.{length, getD};
-ghost use Rattle.std.specs.Of.Vec.{vec-items};
 ghost use Rattle.table.specs.Depth.{above, expression-depth, formula-depth};
 ghost use Rattle.table.specs.Lawful.{all, letter, lawful-name, new-name};
 ghost use Rattle.table.specs.Seen.{action-of, problem-of};

@@ -2,8 +2,6 @@
 ghost use mathlib.Core.Bool.{true, cond};
 ghost use mathlib.Core.Path.{_≡_};
 ghost use Rattle.std.specs.Results.{isOk};
-ghost use Rattle.std.specs.declared.option.Option.the-variants.{None};
-ghost use Rattle.std.specs.declared.result.Result.the-variants.{Ok};
 ghost use Rattle.draft.specs.Entry.{head, bit, number, expression, formula, action, event, process, effect, rate, goal, kind};
 ghost use Rattle.draft.specs.Questions.{may-stand, has-room, Passes, entry-refused};
 ghost use Rattle.draft.specs.Entered.{entered};

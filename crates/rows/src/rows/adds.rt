@@ -1,9 +1,8 @@
 // Rows grow at their end; a refusal for want of memory leaves them as they were.
 ghost use mathlib.Core.Bool.{true, cond};
-ghost use mathlib.Core.List.{[], _∷_, _++_};
 ghost use mathlib.Core.Path.{_≡_};
-ghost use Prim.Native.Nat.{_+_, _<_};
-ghost use Rattle.std.specs.Of.Vec.{vec-items, vec-len};
+ghost use Prim.Native.Nat.{_<_};
+ghost use Rattle.std.specs.Of.Vec.{vec-len};
 ghost use Rattle.std.specs.Results.{isOk};
 ghost use Rattle.rows.specs.Lawful.{expression-stands, formula-stands};
 ghost use Rattle.rows.specs.Seen.{plain, blank, with-bit, with-number, with-expression, with-formula};

@@ -1,10 +1,9 @@
-use mathlib.Core.Path.{_≡_, sym, subst, ap₂}
+use mathlib.Core.Path.{ap₂}
 use mathlib.Core.List.{List}
 use Prim.Native.Nat.{ℕ}
 use Rattle.std.specs.declared.option.Option.the-variants.{Some}
 use Rattle.std.proofs.shelf.Lists.{take-rest}
 use Rattle.draft.specs.Entry.{action}
-use Rattle.records.specs.Decoded.{decoded}
 use Rattle.records.proofs.decode.decode.Needs as need
 
 pub returns-in-Action : need.returns-in-Action

@@ -1,12 +1,10 @@
-use mathlib.Core.Path.{_≡_, sym, subst, _∙_}
-use Prim.Native.Nat.{_-_, _<_}
+use mathlib.Core.Path.{sym, subst, _∙_}
+use Prim.Native.Nat.{_-_}
 use native.Mathlib.Omega.{arith}
 use lib.ListN.{length}
-use Rattle.std.specs.declared.result.Result.the-variants.{Err}
 use Rattle.std.proofs.shelf.Results.{err-from-errBy}
 use Rattle.draft.specs.Outcome.{Refused, Refused-record}
 use Rattle.draft.specs.Seen.{seen}
-use Rattle.records.specs.Bytes.{first}
 use Rattle.records.specs.Loaded.{with-record, all-taken}
 use Rattle.records.specs.Seen.{raw}
 use Rattle.records.proofs.Taken.{first-shorter, taken-none, taken-short, taken-refused, taken-more, some-left, none-left, refused-on}

@@ -1,4 +1,3 @@
-use mathlib.Core.Path.{_≡_, refl}
 use lib.ListN.{getD}
 use Rattle.std.specs.Of.Vec.{vec-items}
 use Rattle.std.proofs.shelf.Lists.{getD-default}

@@ -5,8 +5,7 @@ use Rattle.std.specs.Of.Vec.{vec-items}
 use Rattle.table.specs.Problem.{Problem}
 use Rattle.table.specs.Seen.{problem-of}
 use Rattle.table.specs.Depth.{expression-depth}
-use Rattle.draft.specs.Entry.{expression}
-use Rattle.draft.specs.Entered.{grown, entered}
+use Rattle.draft.specs.Entered.{grown}
 use Rattle.draft.specs.Seen.{seen}
 use Rattle.draft.proofs.Kept.{Keeps, kept, keeps-expression}
 use Rattle.draft.proofs.draft.Draft.enter_expression.Needs as need

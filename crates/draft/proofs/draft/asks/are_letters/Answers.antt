@@ -1,6 +1,5 @@
-use mathlib.Core.Path.{_≡_, refl}
-use Prim.Native.Nat.{_<_}
-use lib.ListN.{length, getD}
+use mathlib.Core.Path.{refl}
+use lib.ListN.{getD}
 use Rattle.std.proofs.shelf.Lists.{getD-default}
 use Rattle.table.specs.Lawful.{all, letter}
 use Rattle.draft.proofs.Loops.{failed, passed, ended}

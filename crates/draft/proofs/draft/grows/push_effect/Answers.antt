@@ -1,8 +1,6 @@
 use mathlib.Core.Path.{_≡_, subst, ap, _∙_}
 use mathlib.Core.Bool.{true}
-use mathlib.Core.List.{map}
 use native.Mathlib.Omega.{arith}
-use lib.Dec.{ltb}
 use lib.ListN.{length}
 use Rattle.std.specs.Of.Vec.{vec-items}
 use Rattle.std.specs.declared.option.Option.the-variants.{Some}

@@ -3,7 +3,6 @@ use Prim.Native.Nat.{_<_}
 use mathlib.Core.Bool.{true, false}
 use Rattle.std.specs.Of.Vec.{vec-items}
 use Rattle.std.proofs.shelf.Results.{err-from-errBy}
-use Rattle.table.specs.Problem.{Event}
 use Rattle.table.specs.Seen.{event-of, problem-of}
 use Rattle.draft.specs.Entered.{event-with, with-events}
 use Rattle.draft.proofs.Last.{last-changed}

@@ -3,7 +3,6 @@ use Prim.Native.Nat.{_<_}
 use mathlib.Core.Bool.{true, false}
 use Rattle.std.specs.Of.Vec.{vec-items}
 use Rattle.std.proofs.shelf.Results.{err-from-errBy}
-use Rattle.table.specs.Problem.{Process}
 use Rattle.table.specs.Seen.{process-of, problem-of}
 use Rattle.draft.specs.Entered.{process-with, with-processes}
 use Rattle.draft.proofs.Last.{last-changed}

@@ -1,10 +1,8 @@
-use mathlib.Core.Path.{_≡_, ap, _∙_}
-use mathlib.Core.List.{List, [], _∷_, _++_}
-use Prim.Native.Nat.{ℕ}
+use mathlib.Core.Path.{_≡_}
+use mathlib.Core.List.{_++_}
 use Rattle.std.specs.Of.Vec.{vec-items}
 use Rattle.draft.specs.Entry.{event, effect}
-use Rattle.draft.specs.declared.entry.Kind.the-variants as kinds
-use Rattle.writer.specs.Written.{encoded, record-bytes}
+use Rattle.writer.specs.Written.{encoded}
 use Rattle.writer.proofs.Pieces.{owner-put}
 use Rattle.writer.proofs.parts.EventPut.put.Needs as need
 
