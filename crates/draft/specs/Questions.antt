@@ -89,7 +89,7 @@ has-room d kinds.Goal = true
 abbrev pub kind-refused : Draft → ℕ → Kind → Option Fault
 kind-refused d at k = ask (may-stand d k) (record-fault Order at) (ask (has-room d k) (row-fault Limit d) None)
 
--- are its values in their ranges, and its letters lawful?
+-- a constant lies in the range
 abbrev pub lawful-constant : Expression → Bool
 lawful-constant (Constant value) = in-range value
 lawful-constant (Number n) = true
@@ -97,6 +97,7 @@ lawful-constant (Sum a b) = true
 lawful-constant (Difference a b) = true
 lawful-constant (Product a b) = true
 
+-- are its values in their ranges, and its letters lawful?
 abbrev pub lawful-fields : Entry → Bool
 lawful-fields (head t) = lawful-tick t
 lawful-fields (bit v) = true

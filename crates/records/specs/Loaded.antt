@@ -48,7 +48,7 @@ added-alone d (Some r) = cond (eqb (length (r .rest)) 0) (with-record d 0 (r .co
 abbrev pub added : Draft → List ℕ → Result Draft Fault
 added d bytes = added-alone d (first bytes)
 
--- one record after another: of `size` bytes, those left begin with the next one; `n` is at least how many records are left
+-- what comes of the bytes behind a record, if it was taken
 abbrev pub onward : (Draft → List ℕ → Result Draft Fault) → Result Draft Fault → List ℕ → Result Draft Fault
 onward next (Ok d) rest = next d rest
 onward next (Err f) rest = Err f
@@ -57,6 +57,8 @@ abbrev pub taken : (Draft → List ℕ → Result Draft Fault) → Draft → ℕ
 taken next d at None = Err (record-fault record-questions.Whole at)
 taken next d at (Some r) = onward next (with-record d at (r .code) (r .body)) (r .rest)
 
+-- One record after another: of `size` bytes these are left, and they begin with the next record. `n` bounds how many records
+-- there are: as each takes at least four bytes, the number of bytes left suffices.
 unfoldable pub all-taken : ℕ → ℕ → Draft → List ℕ → Result Draft Fault
 all-taken zero size d bytes = Ok d
 all-taken (suc n) size d [] = Ok d

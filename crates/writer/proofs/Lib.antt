@@ -2,8 +2,7 @@ pub mod Numbers
 pub mod Fits
 pub mod Codec
 pub mod Places
-pub mod Walk
-pub mod Few
+pub mod Accepted
 pub mod Taken
 pub mod Sections
 pub mod Changes

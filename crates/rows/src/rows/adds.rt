@@ -25,7 +25,7 @@ impl Rows {
         }
     }
 
-    // One bit more that rows may name.
+    // One bit more that rows may name, which they can up to the 65,536th.
     pub fn add_bit(&mut self)
         requires { ⌜ now self .bits < 65536 ⌝ }
         ensures { λ _. ⌜ plain (now (self .exit)) ≡ with-bit (plain (now (self .entry))) ⌝ }
@@ -33,7 +33,7 @@ impl Rows {
         self.bits += 1;
     }
 
-    // One number more that rows may name.
+    // One number more that rows may name, likewise.
     pub fn add_number(&mut self)
         requires { ⌜ now self .numbers < 65536 ⌝ }
         ensures { λ _. ⌜ plain (now (self .exit)) ≡ with-number (plain (now (self .entry))) ⌝ }
