@@ -12,7 +12,7 @@ pub struct Record<'a> {
 }
 
 // The record at the front of the bytes, with what follows it, if they begin with a whole one.
-pub fn cut(bytes: &[u8]) -> Option<Record<'_>>
+pub(crate) fn cut(bytes: &[u8]) -> Option<Record<'_>>
     ensures { λ r. ⌜ mapped raw r ≡ first (now (bytes .entry)) ⌝ }
 {
     let [l0, l1, k0, k1, rest @ ..] = bytes else {

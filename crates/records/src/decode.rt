@@ -59,7 +59,7 @@ fn body_fits(kind: Kind, len: usize) -> bool
 }
 
 // The kind of a record, if its code and the length of its body are right.
-pub fn kind_read(code: u16, len: usize) -> Option<Kind>
+pub(crate) fn kind_read(code: u16, len: usize) -> Option<Kind>
     ensures { λ r. ⌜ r ≡ kind-read code len ⌝ }
 {
     let kind = kind_coded(code)?;
@@ -173,7 +173,7 @@ fn effect<'a>(condition: u16, change: Option<Change>) -> Option<Entry<'a>>
 }
 
 // What a body of the right length says, if its operation, way or flag is in its list and its unused fields are zero.
-pub fn decode(kind: Kind, body: &[u8]) -> Option<Entry<'_>>
+pub(crate) fn decode(kind: Kind, body: &[u8]) -> Option<Entry<'_>>
     requires { ⌜ body-fits kind (length (now body)) ≡ true ⌝ }
     ensures { λ r. ⌜ mapped plain-entry r ≡ decoded kind (now (body .entry)) ⌝ }
 {

@@ -32,10 +32,10 @@ owner-after w o [] = o
 owner-after w o (x ∷ xs) = Some w
 
 -- once one more has come, it is of this sort
-owned-goes : {X : Type 0} (w : Owner) (o : Option Owner) (pre : List X) (x : X) (d : Draft) (es : List Entry) (q : Problem)
+owned-accepted : {X : Type 0} (w : Owner) (o : Option Owner) (pre : List X) (x : X) (d : Draft) (es : List Entry) (q : Problem)
     → Accepts d es (so-far (Some w) q) → Accepts d es (so-far (owner-after w o (pre ++ x ∷ [])) q)
-owned-goes w o [] x d es q g = g
-owned-goes w o (y ∷ pre) x d es q g = g
+owned-accepted w o [] x d es q g = g
+owned-accepted w o (y ∷ pre) x d es q g = g
 
 -- the actions, each with its effects
 pub actions-accepted : (o : Option Owner) (q : Problem) (whole : List Action) → length whole ≤ 64
@@ -49,7 +49,7 @@ actions-accepted o q whole l m h =
     let made : List Effect → Action = λ es. record { name = a .name; condition = a .condition; effects = es } in
     let size : Action → ℕ = λ x. length (x .effects) in (
       record { stands = refl; room = room-at at l; fields = p .0; rows = t .0; shallow = refl; new = s .0 },
-      owned-goes owners.Action o pre a _ _ _
+      owned-accepted owners.Action o pre a _ _ _
           (effects-accepted owners.Action refl (λ es. with-actions (pre ++ made es ∷ []) q)
           (λ es e. ap (λ xs. with-actions xs q) (on-last-push (action-with e) pre (made es))) (a .effects)
           (λ es f. omega (arith, total-at size at, total-push size pre (made es))) (λ es. t .1)),
@@ -65,7 +65,7 @@ events-accepted o q whole l m h =
     let made : List Effect → Event = λ es. record { condition = v .condition; effects = es } in
     let size : Event → ℕ = λ x. length (x .effects) in (
       record { stands = refl; room = room-at at l; fields = refl; rows = t .0; shallow = refl; new = refl },
-      owned-goes owners.Event o pre v _ _ _
+      owned-accepted owners.Event o pre v _ _ _
           (effects-accepted owners.Event refl (λ es. with-events (pre ++ made es ∷ []) q)
           (λ es e. ap (λ xs. with-events xs q) (on-last-push (event-with e) pre (made es))) (v .effects)
           (λ es f. omega (arith, total-at size at, total-push size pre (made es))) (λ es. t .1)),
@@ -81,7 +81,7 @@ processes-accepted o q whole l m h =
     let made : List Rate → Process = λ rs. record { condition = v .condition; rates = rs } in
     let size : Process → ℕ = λ x. length (x .rates) in (
       record { stands = refl; room = room-at at l; fields = refl; rows = t .0; shallow = refl; new = refl },
-      owned-goes owners.Process o pre v _ _ _
+      owned-accepted owners.Process o pre v _ _ _
           (rates-accepted (λ rs. with-processes (pre ++ made rs ∷ []) q)
           (λ rs r. ap (λ xs. with-processes xs q) (on-last-push (process-with r) pre (made rs))) (v .rates)
           (λ rs f. omega (arith, total-at size at, total-push size pre (made rs))) (λ rs. t .1)),

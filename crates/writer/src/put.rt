@@ -57,7 +57,7 @@ fn code(kind: Kind) -> usize
 }
 
 // A record: its length, its kind, its fields, and behind them a value's bytes or a name's letters.
-pub fn put_record(
+pub(crate) fn put_record(
     out: &mut Vec<u8>,
     kind: Kind,
     fields: &[u16],
@@ -73,7 +73,7 @@ pub fn put_record(
 }
 
 // All of a list, one behind another.
-pub fn put_all<T: Put>(out: &mut Vec<u8>, items: &[T]) -> Result<(), AllocError>
+pub(crate) fn put_all<T: Put>(out: &mut Vec<u8>, items: &[T]) -> Result<(), AllocError>
     ensures { λ r. ⌜ made r (λ _. vec-items (now (out .exit)) ≡ vec-items (now (out .entry)) ++ joined bytes (now (items .entry))) ⌝ }
 {
     for x in items {
