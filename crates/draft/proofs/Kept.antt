@@ -25,13 +25,22 @@ use Rattle.draft.proofs.Entered as entering
 
 -- the ghost fields of a draft with these depths and counts
 abbrev pub Keeps : Draft → List ℕ → List ℕ → ℕ → ℕ → Type 0
-Keeps d es fs effects rates =
-    LawfulDraft d
-    × ((es ≡ depths_of_expressions d.problem.expressions)
-    × ((fs ≡ depths_of_formulas d.problem.formulas) × ((effects ≡ effects_of d.problem) × ((rates ≡ rates_of d.problem) × Unit {0}))))
+Keeps d es fs effects rates = record {
+  lawful : LawfulDraft d;
+  expressions_measured : es ≡ depths_of_expressions d.problem.expressions;
+  formulas_measured : fs ≡ depths_of_formulas d.problem.formulas;
+  effects_counted : effects ≡ effects_of d.problem;
+  rates_counted : rates ≡ rates_of d.problem;
+}
 
 pub kept : (s : Code) → Keeps (seen s) (vec_items s.expression_depths) (vec_items s.formula_depths) s.effects s.rates
-kept s = (s.lawful, (s.expressions_measured, (s.formulas_measured, (s.effects_counted, (s.rates_counted, tt)))))
+kept s = record {
+  lawful = s.lawful;
+  expressions_measured = s.expressions_measured;
+  formulas_measured = s.formulas_measured;
+  effects_counted = s.effects_counted;
+  rates_counted = s.rates_counted;
+}
 
 -- a question that refuses nothing was answered by yes, and so were those after it
 pub ask_passed : (b : Bool) (f : Fault) (rest : Option Fault) → ask b f rest ≡ None → (b ≡ true) × (rest ≡ None)
@@ -70,58 +79,91 @@ effect_rates None e p = refl
 
 module _ (d : Draft) (es fs : List ℕ) (n m : ℕ) (k : Keeps d es fs n m) where
   pub keeps_bit : (v : Bool) → Passes d (bit v) → Keeps (entered d (bit v)) es fs n m
-  keeps_bit v h = (lawful_next d (bit v) k.0 h, k.1)
+  keeps_bit v h = record {
+    lawful = lawful_next d (bit v) k.lawful h;
+    expressions_measured = k.expressions_measured;
+    formulas_measured = k.formulas_measured;
+    effects_counted = k.effects_counted;
+    rates_counted = k.rates_counted;
+  }
 
   pub keeps_number : (z : ℤ) → Passes d (number z) → Keeps (entered d (number z)) es fs n m
-  keeps_number z h = (lawful_next d (number z) k.0 h, k.1)
+  keeps_number z h = record {
+    lawful = lawful_next d (number z) k.lawful h;
+    expressions_measured = k.expressions_measured;
+    formulas_measured = k.formulas_measured;
+    effects_counted = k.effects_counted;
+    rates_counted = k.rates_counted;
+  }
 
   pub keeps_expression : (e : Expression) → Passes d (expression e) → Keeps (entered d (expression e)) (es ++ expression_depth es e ∷ []) fs n m
-  keeps_expression e h = (
-    lawful_next d (expression e) k.0 h,
-    (ap (λ l. l ++ expression_depth l e ∷ []) k.1.0 ∙ sym (depths_push expression_depth [] d.problem.expressions e), k.1.1),
-  )
+  keeps_expression e h = record {
+    lawful = lawful_next d (expression e) k.lawful h;
+    expressions_measured = ap (λ l. l ++ expression_depth l e ∷ []) k.expressions_measured ∙ sym (depths_push expression_depth [] d.problem.expressions e);
+    formulas_measured = k.formulas_measured;
+    effects_counted = k.effects_counted;
+    rates_counted = k.rates_counted;
+  }
 
   pub keeps_formula : (f : Formula) → Passes d (formula f) → Keeps (entered d (formula f)) es (fs ++ formula_depth fs f ∷ []) n m
-  keeps_formula f h = (
-    lawful_next d (formula f) k.0 h,
-    (
-      k.1.0,
-      (ap (λ l. l ++ formula_depth l f ∷ []) k.1.1.0 ∙ sym (depths_push formula_depth [] d.problem.formulas f), k.1.1.1),
-    ),
-  )
+  keeps_formula f h = record {
+    lawful = lawful_next d (formula f) k.lawful h;
+    expressions_measured = k.expressions_measured;
+    formulas_measured = ap (λ l. l ++ formula_depth l f ∷ []) k.formulas_measured ∙ sym (depths_push formula_depth [] d.problem.formulas f);
+    effects_counted = k.effects_counted;
+    rates_counted = k.rates_counted;
+  }
 
   pub keeps_action : (c : ℕ) (name : List ℕ) → Passes d (action c name) → Keeps (entered d (action c name)) es fs n m
-  keeps_action c name h =
-      (lawful_next d (action c name) k.0 h, (k.1.0, (k.1.1.0, (k.1.1.1.0 ∙ sym (effects_action d c name), k.1.1.1.1))))
+  keeps_action c name h = record {
+    lawful = lawful_next d (action c name) k.lawful h;
+    expressions_measured = k.expressions_measured;
+    formulas_measured = k.formulas_measured;
+    effects_counted = k.effects_counted ∙ sym (effects_action d c name);
+    rates_counted = k.rates_counted;
+  }
 
   pub keeps_event : (c : ℕ) → Passes d (event c) → Keeps (entered d (event c)) es fs n m
-  keeps_event c h = (lawful_next d (event c) k.0 h, (k.1.0, (k.1.1.0, (k.1.1.1.0 ∙ sym (effects_event d c), k.1.1.1.1))))
+  keeps_event c h = record {
+    lawful = lawful_next d (event c) k.lawful h;
+    expressions_measured = k.expressions_measured;
+    formulas_measured = k.formulas_measured;
+    effects_counted = k.effects_counted ∙ sym (effects_event d c);
+    rates_counted = k.rates_counted;
+  }
 
   pub keeps_process : (c : ℕ) → Passes d (process c) → Keeps (entered d (process c)) es fs n m
-  keeps_process c h =
-      (lawful_next d (process c) k.0 h, (k.1.0, (k.1.1.0, (k.1.1.1.0, (k.1.1.1.1.0 ∙ sym (rates_process d c), tt)))))
+  keeps_process c h = record {
+    lawful = lawful_next d (process c) k.lawful h;
+    expressions_measured = k.expressions_measured;
+    formulas_measured = k.formulas_measured;
+    effects_counted = k.effects_counted;
+    rates_counted = k.rates_counted ∙ sym (rates_process d c);
+  }
 
   pub keeps_effect : (e : Effect) → Passes d (effect e) → Keeps (entered d (effect e)) es fs (n + 1) m
   keeps_effect e h =
       let o = d.owner in
       let p = d.problem in
-      let t = (and_parts (going_on d) (takes_effects o) (sym (entering.effect_may_stand d e.change) ∙ h.0)).1 in (
-        lawful_next d (effect e) k.0 h,
-        (
-          k.1.0 ∙ ap depths_of_expressions (sym (effect_expressions o e p)),
-          (
-            k.1.1.0 ∙ ap depths_of_formulas (sym (effect_formulas o e p)),
-            (ap (λ i. i + 1) k.1.1.1.0 ∙ sym (effects_entered d e k.0.2 t), (k.1.1.1.1.0 ∙ sym (effect_rates o e p), tt)),
-          ),
-        ),
-      )
+      let t = (and_parts (going_on d) (takes_effects o) (sym (entering.effect_may_stand d e.change) ∙ h.0)).1 in
+      record {
+        lawful = lawful_next d (effect e) k.lawful h;
+        expressions_measured = k.expressions_measured ∙ ap depths_of_expressions (sym (effect_expressions o e p));
+        formulas_measured = k.formulas_measured ∙ ap depths_of_formulas (sym (effect_formulas o e p));
+        effects_counted = ap (λ i. i + 1) k.effects_counted ∙ sym (effects_entered d e k.lawful.2 t);
+        rates_counted = k.rates_counted ∙ sym (effect_rates o e p);
+      }
 
   pub keeps_rate : (r : Rate) → Passes d (rate r) → Keeps (entered d (rate r)) es fs n (m + 1)
   keeps_rate r h =
-      let t = (and_parts (going_on d) (takes_rates d.owner) h.0).1 in (
-        lawful_next d (rate r) k.0 h,
-        (k.1.0, (k.1.1.0, (k.1.1.1.0, (ap (λ i. i + 1) k.1.1.1.1.0 ∙ sym (rates_entered d r k.0.2 t), tt)))),
-      )
+      let t = (and_parts (going_on d) (takes_rates d.owner) h.0).1 in
+      record {
+        lawful = lawful_next d (rate r) k.lawful h;
+        expressions_measured = k.expressions_measured;
+        formulas_measured = k.formulas_measured;
+        effects_counted = k.effects_counted;
+        rates_counted = ap (λ i. i + 1) k.rates_counted ∙ sym (rates_entered d r k.lawful.2 t);
+      }
 
 -- what holds both after a record and without it
 pub either : {X : Type 0} (P : X → Type 0) (b : Bool) (x y : X) → P x → P y → P (cond b x y)

@@ -1,4 +1,7 @@
 // A fault as a sentence for a person.
+
+#![tactic(auto)]
+
 use faults::{Fault, RecordQuestion, RowQuestion};
 use std::fmt;
 

@@ -1,5 +1,8 @@
 // Why a call is refused: one enum with a case for each layer, which holds what that layer tells of the refusal.
 // Upper layers pass a fault on whole.
+
+#![tactic(auto)]
+
 ghost use Rattle.std.specs.Prelude.{◌≡◌};
 ghost use Rattle.faults.specs.declared.Fault.TheVariants.{Memory};
 ghost use Rattle.faults.specs.Faults.{number, layer, place};

@@ -1,4 +1,7 @@
 // Reads the problem in the working folder and prints all that it holds, or why it is refused.
+
+#![tactic(auto)]
+
 use anyhow::anyhow;
 use fault_text::Sentence;
 use faults::Fault;

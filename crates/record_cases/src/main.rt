@@ -1,6 +1,9 @@
 // Takes each file that cases.txt names, one to a line, once by Load, once record by record by Add, and once as one record by Add, and prints how it is answered:
 // the number and place of its refusal, or that it is a problem. A problem is written as records again: how many bytes that gives, their checksum,
 // and whether they are the file's own or those of its records in another order.
+
+#![tactic(auto)]
+
 use anyhow::anyhow;
 use draft::draft::Draft;
 use faults::Fault;

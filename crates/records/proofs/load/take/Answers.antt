@@ -24,22 +24,22 @@ admit-requires c =
     let d = seen c.args.draft.now in
     let k = c.in-Some.kind in
     let is = kind_decoded k c.args.body.now (plain_entry c.in-Some-decode.entry) c.in-Some-decode.ensures in
-    let a = ask_passed (may_stand d k) (record_fault Order c.args.at) (ask (has_room d k) (row_fault Limit d) None) (sym c.in-ok-ask-kind.ensures) in
+    let a = ask_passed (may_stand d k) (record_fault Order c.args.at) (ask (has_room d k) (row_fault Limit d) None) (sym c.in_ok-ask_kind.ensures) in
     let b = ask_passed (has_room d k) (row_fault Limit d) None a.1 in
     record {
       stands = subst (λ (j : Kind). may_stand d j ≡ true) (sym is) a.0;
       room = subst (λ (j : Kind). has_room d j ≡ true) (sym is) b.0;
     }
 
-pub returns-in-err-ask-kind : goal.returns-in-err-ask-kind
-returns-in-err-ask-kind c =
+pub returns-in_err-ask_kind : goal.returns-in_err-ask_kind
+returns-in_err-ask_kind c =
     let d = seen c.args.draft.now in
     let body = c.args.body.now in
     let k = c.in-Some.kind in
-    let p = err_from_is_err_and c.from-residual.result c.from-residual.ensures.1 in
+    let p = err_from_is_err_and c.from_residual.result c.from_residual.ensures.1 in
     rw p.1 (
       subst (λ f. RefusedRecord (with_record d c.args.at c.args.code body) f) (sym p.2)
-          (subst (λ o. RefusedRecord (with_kind d c.args.at body o) c.in-err-ask-kind.field-0.0) c.in-Some.ensures
-          (kind_told d c.args.at k c.in-err-ask-kind.field-0.0 (with_entry d (decoded k body)) c.in-err-ask-kind.ensures)),
+          (subst (λ o. RefusedRecord (with_kind d c.args.at body o) c.in_err-ask_kind.field-0.0) c.in-Some.ensures
+          (kind_told d c.args.at k c.in_err-ask_kind.field-0.0 (with_entry d (decoded k body)) c.in_err-ask_kind.ensures)),
       refl,
     )

@@ -7,17 +7,17 @@ use Rattle.records.specs.Seen.{raw}
 use Rattle.records.proofs.Taken.{first_shorter, taken_none, taken_short, taken_refused, taken_more, some_left, none_left, refused_on}
 use Rattle.records.proofs.load.take_all.Goals as goal
 
-pub returns-in-default : goal.returns-in-default
-returns-in-default c =
+pub returns-in_default : goal.returns-in_default
+returns-in_default c =
     let bytes = c.args.bytes.now in
     let left = c.loop-left.left.now in
     let d = seen c.loop-left.draft in
     let some = some_left (length left) c.loop-left-test.ensures in
     let outcome = all_taken (length bytes) (length bytes) (seen c.args.draft.now) bytes in
-    subst (Refused outcome) (sym c.not-whole.ensures) (sym c.loop-left.invariant.1 ∙ taken_short (length bytes) d left some (sym c.in-default.ensures))
+    subst (Refused outcome) (sym c.not-whole.ensures) (sym c.loop-left.invariant.1 ∙ taken_short (length bytes) d left some (sym c.in_default.ensures))
 
-pub returns-in-err-take : goal.returns-in-err-take
-returns-in-err-take c =
+pub returns-in_err-take : goal.returns-in_err-take
+returns-in_err-take c =
     let bytes = c.args.bytes.now in
     let left = c.loop-left.left.now in
     let d = seen c.loop-left.draft in
@@ -25,11 +25,11 @@ returns-in-err-take c =
     let is = sym c.in-Some.ensures in
     let some = some_left (length left) c.loop-left-test.ensures in
     let outcome = all_taken (length bytes) (length bytes) (seen c.args.draft.now) bytes in
-    let p = err_from_is_err_and c.from-residual.result c.from-residual.ensures.1 in
+    let p = err_from_is_err_and c.from_residual.result c.from_residual.ensures.1 in
     rw p.1
     (refused_on (with_record d (length bytes - length left) r.code r.body) outcome p.0
     (λ g e. sym c.loop-left.invariant.1 ∙ taken_refused (length bytes) d left some r is g e)
-    (subst (RefusedRecord (with_record d (length bytes - length left) r.code r.body)) (sym p.2) c.in-err-take.ensures.0))
+    (subst (RefusedRecord (with_record d (length bytes - length left) r.code r.body)) (sym p.2) c.in_err-take.ensures.0))
 
 pub loop-left-smaller : goal.loop-left-smaller
 loop-left-smaller c = first_shorter c.loop-left.left.now (raw c.in-Some.record) (sym c.in-Some.ensures)
@@ -43,7 +43,7 @@ loop-left-preserved c =
     let is = sym c.in-Some.ensures in
     let some = some_left (length left) c.loop-left-test.ensures in
     let short = first_shorter left r is in
-    (omega (arith, short, c.loop-left.invariant.0), taken_more (length bytes) d left some r is (seen c.take.new.draft) c.in-ok-take.ensures ∙ c.loop-left.invariant.1)
+    (omega (arith, short, c.loop-left.invariant.0), taken_more (length bytes) d left some r is (seen c.take.new.draft) c.in_ok-take.ensures ∙ c.loop-left.invariant.1)
 
 pub returns : goal.returns
 returns c =

@@ -4,5 +4,5 @@ use Rattle.writer.proofs.put.put_pair.Goals as goal
 
 pub returns : goal.returns
 returns c =
-    behind (vec_items c.args.out.now) (c.args.n % 256 ∷ []) (c.args.n / 256 % 256 ∷ []) c.in-ok-push.ensures.items
-    c.in-ok-push-2.ensures.items
+    behind (vec_items c.args.out.now) (c.args.n % 256 ∷ []) (c.args.n / 256 % 256 ∷ []) c.in_ok-push.ensures.items
+    c.in_ok-push-2.ensures.items

@@ -10,10 +10,10 @@ returns c =
     let old = vec_items c.args.out.now in
     let fs = c.args.fields.now in
     let tail = c.args.tail.now in
-    let a : vec_items c.put-pair.new.out ≡ old ++ pair_bytes (2 + length (flat_map pair_bytes fs ++ tail)) =
-    c.in-ok-put-pair.ensures ∙ ap (λ (n : ℕ). old ++ pair_bytes (2 + n)) (sym (length_fields fs tail)) in
-    let b : vec_items c.put-pair-2.new.out ≡ vec_items c.put-pair.new.out ++ pair_bytes (code c.args.kind) =
-    c.in-ok-put-pair-2.ensures ∙ ap (λ (n : ℕ). vec_items c.put-pair.new.out ++ pair_bytes n) c.code.ensures in
-    let d = behind (vec_items c.put-pair-2.new.out) (flat_map pair_bytes fs) tail c.in-ok-put-fields.ensures c.in-ok-extend-from-slice.ensures.items in
+    let a : vec_items c.put_pair.new.out ≡ old ++ pair_bytes (2 + length (flat_map pair_bytes fs ++ tail)) =
+    c.in_ok-put_pair.ensures ∙ ap (λ (n : ℕ). old ++ pair_bytes (2 + n)) (sym (length_fields fs tail)) in
+    let b : vec_items c.put_pair-2.new.out ≡ vec_items c.put_pair.new.out ++ pair_bytes (code c.args.kind) =
+    c.in_ok-put_pair-2.ensures ∙ ap (λ (n : ℕ). vec_items c.put_pair.new.out ++ pair_bytes n) c.code.ensures in
+    let d = behind (vec_items c.put_pair-2.new.out) (flat_map pair_bytes fs) tail c.in_ok-put_fields.ensures c.in_ok-extend_from_slice.ensures.items in
     behind old (pair_bytes (2 + length (flat_map pair_bytes fs ++ tail))) (pair_bytes (code c.args.kind) ++ (flat_map pair_bytes fs ++ tail)) a
-    (behind (vec_items c.put-pair.new.out) (pair_bytes (code c.args.kind)) (flat_map pair_bytes fs ++ tail) b d)
+    (behind (vec_items c.put_pair.new.out) (pair_bytes (code c.args.kind)) (flat_map pair_bytes fs ++ tail) b d)

@@ -7,12 +7,12 @@ use Rattle.writer.specs.Written.{written}
 use Rattle.writer.proofs.Loads as loads
 use Rattle.writer.proofs.write.write.Goals as goal
 
-pub returns-in-err-put : goal.returns-in-err-put
-returns-in-err-put c =
-    let e = c.from-residual.ensures.0 in
+pub returns-in_err-put : goal.returns-in_err-put
+returns-in_err-put c =
+    let e = c.from_residual.ensures.0 in
     record {
-      bytes = IfOk-from_err c.from-residual.result _ e;
-      loads_back = IfOk-from_err c.from-residual.result _ e;
+      bytes = IfOk-from_err c.from_residual.result _ e;
+      loads_back = IfOk-from_err c.from_residual.result _ e;
       law = loads.loads_back;
     }
 
@@ -20,6 +20,6 @@ pub returns : goal.returns
 returns c =
     let t = c.args.table.now in
     let e : vec_items c.put.new.out ≡ written (problem t) =
-    c.in-ok-put.ensures ∙ ap (λ (l : List ℕ). l ++ written (problem_of c.contents.result.now)) c.new-out.ensures.items
+    c.in_ok-put.ensures ∙ ap (λ (l : List ℕ). l ++ written (problem_of c.contents.result.now)) c.new-out.ensures.items
     ∙ ap written c.contents.ensures.value in
     record { bytes = e; loads_back = ap problem_loaded e ∙ loads.loads_back (problem t) t.lawful; law = loads.loads_back }

@@ -5,11 +5,11 @@ use Rattle.draft.specs.Seen.{seen}
 use Rattle.draft.proofs.Kept.{Keeps, kept, keeps_effect}
 use Rattle.draft.proofs.draft.Draft.enter_effect.Goals as goal
 
-pub invariant-of-self-2 : goal.invariant-of-self-2
-invariant-of-self-2 c =
+pub invariant_of-self-2 : goal.invariant_of-self-2
+invariant_of-self-2 c =
     let s = c.args.self.now in
     let d = seen s in
     let es = vec_items s.expression_depths in
     let fs = vec_items s.formula_depths in
     let P : Problem → Type 0 = λ p. Keeps (grown d p) es fs (s.effects + 1) s.rates in
-    subst P (sym c.in-ok-push-effect.ensures) (keeps_effect d es fs s.effects s.rates (kept s) c.args.e c.requires)
+    subst P (sym c.in_ok-push_effect.ensures) (keeps_effect d es fs s.effects s.rates (kept s) c.args.e c.requires)

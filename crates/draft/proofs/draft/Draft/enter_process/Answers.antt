@@ -6,11 +6,11 @@ use Rattle.draft.specs.declared.entry.Owner.TheVariants as owners
 use Rattle.draft.proofs.Kept.{Keeps, kept, keeps_process}
 use Rattle.draft.proofs.draft.Draft.enter_process.Goals as goal
 
-pub invariant-of-self-2 : goal.invariant-of-self-2
-invariant-of-self-2 c =
+pub invariant_of-self-2 : goal.invariant_of-self-2
+invariant_of-self-2 c =
     let s = c.args.self.now in
     let d = seen s in
     let es = vec_items s.expression_depths in
     let fs = vec_items s.formula_depths in
     let P : Problem → Type 0 = λ p. Keeps (owned owners.Process d p) es fs s.effects s.rates in
-    subst P (sym c.in-ok-push-process.ensures) (keeps_process d es fs s.effects s.rates (kept s) c.args.condition c.requires)
+    subst P (sym c.in_ok-push_process.ensures) (keeps_process d es fs s.effects s.rates (kept s) c.args.condition c.requires)

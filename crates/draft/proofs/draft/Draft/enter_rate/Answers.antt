@@ -10,17 +10,17 @@ use Rattle.draft.proofs.Counted.{some_process}
 use Rattle.draft.proofs.Kept.{Keeps, kept, keeps_rate}
 use Rattle.draft.proofs.draft.Draft.enter_rate.Goals as goal
 
-pub invariant-of-self-2 : goal.invariant-of-self-2
-invariant-of-self-2 c =
+pub invariant_of-self-2 : goal.invariant_of-self-2
+invariant_of-self-2 c =
     let s = c.args.self.now in
     let d = seen s in
     let es = vec_items s.expression_depths in
     let fs = vec_items s.formula_depths in
     let P : Problem → Type 0 = λ p. Keeps (grown d p) es fs s.effects (s.rates + 1) in
-    subst P (sym c.in-ok-push-rate.ensures) (keeps_rate d es fs s.effects s.rates (kept s) c.args.r c.requires)
+    subst P (sym c.in_ok-push_rate.ensures) (keeps_rate d es fs s.effects s.rates (kept s) c.args.r c.requires)
 
-pub push-rate-requires : goal.push-rate-requires
-push-rate-requires c =
+pub push_rate-requires : goal.push_rate-requires
+push_rate-requires c =
     let s = c.args.self.now in
     let d = seen s in
     let v = s.contents.processes in

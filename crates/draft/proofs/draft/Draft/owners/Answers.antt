@@ -3,8 +3,8 @@ use Rattle.std.proofs.lemmas.List.{length-map}
 use Rattle.table.specs.Seen.{action_of, event_of, process_of}
 use Rattle.draft.proofs.draft.Draft.owners.Goals as goal
 
-pub overflow-add-result-2 : goal.overflow-add-result-2
-overflow-add-result-2 c =
+pub overflow_add-result-2 : goal.overflow_add-result-2
+overflow_add-result-2 c =
     let d = c.args.self.now in
     let few = d.lawful.0.1 in
     let a = d.contents.actions.ok.0 ∙ sym (length-map (vec_items d.contents.actions) action_of) in

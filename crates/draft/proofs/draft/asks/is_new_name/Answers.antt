@@ -22,14 +22,14 @@ returns-then-eq c =
     let name = c.args.name.now in
     let a = c.a-item.result in
     failed (λ l. new_name (map action_of l) name) (other name) refl (λ _ _. refl) c.args.actions.now c.loop-a.a-index c.loop-a.invariant a c.loop-a-test.true c.a-item.is
-    (same c.as-slice.result.now (vec_items a.name) name c.eq.result true c.as-slice.ensures.value (slice_eq-Decides Decides-eqb _ _ _ c.eq.ensures) c.if-eq.true)
+    (same c.as_slice.result.now (vec_items a.name) name c.eq.result true c.as_slice.ensures.value (slice_eq-Decides Decides-eqb _ _ _ c.eq.ensures) c.if-eq.true)
 
 pub loop-a-preserved : goal.loop-a-preserved
 loop-a-preserved c =
     let name = c.args.name.now in
     let a = c.a-item.result in
     passed (λ l. new_name (map action_of l) name) (other name) refl (λ _ _. refl) c.args.actions.now c.loop-a.a-index c.loop-a.invariant a c.loop-a-test.true c.a-item.is
-    (same c.as-slice.result.now (vec_items a.name) name c.eq.result false c.as-slice.ensures.value (slice_eq-Decides Decides-eqb _ _ _ c.eq.ensures) c.if-eq.false)
+    (same c.as_slice.result.now (vec_items a.name) name c.eq.result false c.as_slice.ensures.value (slice_eq-Decides Decides-eqb _ _ _ c.eq.ensures) c.if-eq.false)
 
 pub returns : goal.returns
 returns c =

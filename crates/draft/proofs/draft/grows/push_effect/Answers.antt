@@ -5,15 +5,15 @@ use Rattle.table.specs.Seen.{action_of, event_of, problem_of}
 use Rattle.draft.specs.Lawful.{owner_stands}
 use Rattle.draft.proofs.draft.grows.push_effect.Goals as goal
 
-pub push-action-effect-requires : goal.push-action-effect-requires
-push-action-effect-requires c =
+pub push_action_effect-requires : goal.push_action_effect-requires
+push_action_effect-requires c =
     let p = problem_of c.args.c.now in
     let v = c.args.c.now.actions in
     let h = ltb-true 0 (length p.actions) (subst (λ o. owner_stands o p ≡ true) (c.in-Some.is ∙ ap Some c.in-Action.is) c.requires) in
     omega (arith, h, length-map (vec_items v) action_of, v.ok.0)
 
-pub push-event-effect-requires : goal.push-event-effect-requires
-push-event-effect-requires c =
+pub push_event_effect-requires : goal.push_event_effect-requires
+push_event_effect-requires c =
     let p = problem_of c.args.c.now in
     let v = c.args.c.now.events in
     let h = ltb-true 0 (length p.events) (subst (λ o. owner_stands o p ≡ true) (c.in-Some.is ∙ ap Some c.in-Event.is) c.requires) in

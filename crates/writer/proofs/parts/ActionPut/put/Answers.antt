@@ -9,5 +9,5 @@ pub returns : goal.returns
 returns c =
     let s = c.args.self.now in
     let old = vec_items c.args.out.now in
-    let a : vec_items c.put-record.new.out ≡ old ++ encoded (action s.condition (vec_items s.name)) = c.in-ok-put-record.ensures ∙ ap (λ (l : List ℕ). old ++ record_bytes kinds.Action (s.condition ∷ []) l) c.as-slice.ensures.value in
-    owner_put encoded effect (action s.condition (vec_items s.name)) (vec_items s.effects) c.as-slice-2.result.now old a c.in-ok-put-all.ensures c.as-slice-2.ensures.value
+    let a : vec_items c.put_record.new.out ≡ old ++ encoded (action s.condition (vec_items s.name)) = c.in_ok-put_record.ensures ∙ ap (λ (l : List ℕ). old ++ record_bytes kinds.Action (s.condition ∷ []) l) c.as_slice.ensures.value in
+    owner_put encoded effect (action s.condition (vec_items s.name)) (vec_items s.effects) c.as_slice-2.result.now old a c.in_ok-put_all.ensures c.as_slice-2.ensures.value

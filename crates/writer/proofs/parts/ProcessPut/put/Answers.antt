@@ -8,5 +8,5 @@ pub returns : goal.returns
 returns c =
     let s = c.args.self.now in
     let old = vec_items c.args.out.now in
-    let a : vec_items c.put-record.new.out ≡ old ++ encoded (process s.condition) = c.in-ok-put-record.ensures in
-    owner_put encoded rate (process s.condition) (vec_items s.rates) c.as-slice.result.now old a c.in-ok-put-all.ensures c.as-slice.ensures.value
+    let a : vec_items c.put_record.new.out ≡ old ++ encoded (process s.condition) = c.in_ok-put_record.ensures in
+    owner_put encoded rate (process s.condition) (vec_items s.rates) c.as_slice.result.now old a c.in_ok-put_all.ensures c.as_slice.ensures.value
