@@ -70,7 +70,7 @@ pub(crate) fn put_record(
 
 // All of a list, one behind another.
 pub(crate) fn put_all<T: Put>(out: &mut Vec<u8>, items: &[T]) -> Result<(), AllocError>
-    ensures { OnOk result (out.new.items ≡ out.old.items ++ flat_map bytes items.now) }
+    ensures { OnOk result (out.new.items ≡ out.old.items ++ flat_map T.bytes items.now) }
 {
     for x in items {
         x.put(out)?;

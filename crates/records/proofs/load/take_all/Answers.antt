@@ -14,7 +14,7 @@ returns-in_default c =
     let d = seen c.loop-left.draft in
     let some = some_left (length left) c.loop-left-test.ensures in
     let outcome = all_taken (length bytes) (length bytes) (seen c.args.draft.now) bytes in
-    subst (Refused outcome) (sym c.not-whole.ensures) (sym c.loop-left.invariant.1 ∙ taken_short (length bytes) d left some (sym c.in_default.ensures))
+    subst (Refused outcome) (sym c.not_whole.ensures) (sym c.loop-left.invariant.1 ∙ taken_short (length bytes) d left some (sym c.in_default.ensures))
 
 pub returns-in_err-take : goal.returns-in_err-take
 returns-in_err-take c =
