@@ -1,7 +1,6 @@
 use Rattle.std.proofs.Common.{◌≡◌, true, length, None, sym, refl, subst}
 use Rattle.faults.specs.declared.RecordQuestion.TheVariants.{Order}
 use Rattle.faults.specs.declared.RowQuestion.TheVariants.{Limit}
-use Rattle.draft.specs.Entry.{kind}
 use Rattle.draft.specs.Questions.{ask, may_stand, has_room, record_fault, row_fault}
 use Rattle.draft.specs.Seen.{seen}
 use Rattle.draft.specs.Plain.{plain_entry}
