@@ -9,6 +9,7 @@ use listing::Listing;
 use records::load::load_table;
 use std::alloc::AllocError;
 use std::io::Read;
+use std::process::ExitCode;
 use std::{fs, io};
 
 mod listing;
@@ -59,10 +60,13 @@ fn run(rt: &HostRuntime) -> anyhow::Result<()> {
     }
 }
 
-fn main(rt: HostRuntime) -> anyhow::Result<()> {
-    let outcome = run(&rt);
-    if let Err(e) = &outcome {
-        eprintln!(rt; "problem_show: {e}")?;
+// An error is printed once, under the program's name.
+fn main(rt: HostRuntime) -> ExitCode {
+    match run(&rt) {
+        Ok(()) => ExitCode::SUCCESS,
+        Err(e) => {
+            let _ = eprintln!(rt; "problem_show: {e}");
+            ExitCode::FAILURE
+        }
     }
-    outcome
 }
