@@ -1,9 +1,9 @@
 #!/usr/bin/env python3
 """Programs that the compiler must reject: misuse of a state that is a type of its own.
 
-Each case is an edit in a copy of a crate. The unedited copy must be accepted by the front end, and each edited one
-rejected with the error that the case names. The front end checks types, moves and borrows, and no proof, so this takes
-seconds. Run from anywhere:
+Each case is an edit in a copy of a crate. The unedited copy must be accepted by the kit's front end, and each edited one
+rejected with the error that the case names. The front end, which is `rattle check` with no function to prove, checks
+types, moves and borrows, so this takes seconds. Run from anywhere:
 
     python3 tools/rejected.py
 """
