@@ -47,7 +47,7 @@ def dependencies():
 
 
 def front_end(home, crate, folder):
-    """Reads the crate in this folder, with the libraries below it as sources and with no function to prove; gives what was said."""
+    """Reads the crate in this folder, with the libraries below it as sources and no function to prove; gives the status and what was said."""
     used = dependencies()
     command = [str(home / "bin" / "rattle"), "check", "--crate-name", crate, "src/lib.rt", "--only", "", "--jobs", "1"]
     for name in ("std", "core"):

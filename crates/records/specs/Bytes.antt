@@ -1,7 +1,6 @@
 -- Numbers as bytes, the lowest byte first, and a record as bytes.
 use Rattle.std.specs.Prelude.{ℕ, ◌+◌, ◌-◌, ◌*◌, ◌/◌, ◌%◌, cond, List, [], ◌∷◌, length, take, drop, ℤ, Some, None, Option, nat_le, slice_index}
-use Rattle.std.specs.Int.{w32}
-use Rattle.std.proofs.Common.{to_z, of_z}
+use Rattle.std.specs.Int.{w32, cast_signed, cast_unsigned}
 
 -- a field takes two bytes
 abbrev pub pair : ℕ → ℕ → ℕ
@@ -16,10 +15,10 @@ field body at = pair (slice_index body at) (slice_index body (at + 1))
 
 -- a value takes four bytes, and is signed
 abbrev pub value_bytes : ℤ → List ℕ
-value_bytes z = (of_z w32 z % 256) ∷ (of_z w32 z / 256 % 256) ∷ (of_z w32 z / 65536 % 256) ∷ (of_z w32 z / 16777216 % 256) ∷ []
+value_bytes z = (cast_unsigned w32 z % 256) ∷ (cast_unsigned w32 z / 256 % 256) ∷ (cast_unsigned w32 z / 65536 % 256) ∷ (cast_unsigned w32 z / 16777216 % 256) ∷ []
 
 abbrev pub value : List ℕ → ℕ → ℤ
-value body at = to_z w32 (slice_index body at + slice_index body (at + 1) * 256 + slice_index body (at + 2) * 65536 + slice_index body (at + 3) * 16777216)
+value body at = cast_signed w32 (slice_index body at + slice_index body (at + 1) * 256 + slice_index body (at + 2) * 65536 + slice_index body (at + 3) * 16777216)
 
 -- a record: the code of its kind, what follows the code, and the bytes behind the record
 pub record Raw : Type 0 where
