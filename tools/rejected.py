@@ -19,12 +19,12 @@ ROOT = pathlib.Path(__file__).resolve().parent.parent
 # what is tried, crate, file, old text, new text, the error that is expected
 CASES = [
     ("a record is added to a sealed table", "records", "src/load.rt",
-     "        Ok(table) => Ok(table),\n",
-     "        Ok(mut table) => {\n            add(&mut table, bytes)?;\n            Ok(table)\n        }\n",
+     "    Ok(draft.seal().unwrap())\n",
+     "    let mut table = draft.seal().unwrap();\n    add(&mut table, bytes)?;\n    Ok(table)\n",
      "error[mismatched-types]: expected `&mut Draft`, found `&mut Table`"),
     ("a draft is used after it was sealed", "records", "src/load.rt",
-     "        Err(_) => unreachable(),\n",
-     "        Err(_) => Err(draft.row_fault(RowQuestion::Goal)),\n",
+     "    Ok(draft.seal().unwrap())\n",
+     "    let table = draft.seal().unwrap();\n    draft.ask_seal()?;\n    Ok(table)\n",
      "error[borrow-e0382]: borrow of moved value: `draft`"),
 ]
 

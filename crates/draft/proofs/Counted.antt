@@ -1,6 +1,7 @@
 -- How many effects and rates there are after one record more.
 use Rattle.std.proofs.Common.{◌≡◌, ℕ, ◌+◌, ◌<◌, true, List, [], length, Some, None, Option, arith}
 use Rattle.std.proofs.lemmas.List.{length_push}
+use Rattle.std.proofs.lemmas.List.Sums.{sum_by_push}
 use Rattle.std.proofs.lemmas.Bool.{ltb-true, false≢true}
 use Rattle.rows.specs.declared.row.Effect.{Effect}
 use Rattle.rows.specs.declared.row.Rate.{Rate}
@@ -13,7 +14,7 @@ use Rattle.draft.specs.Entered.{entered, on_last, with_effect, action_with, even
 use Rattle.draft.specs.Lawful.{owner_stands}
 use Rattle.draft.specs.declared.entry.Owner.{Owner}
 use Rattle.draft.specs.declared.entry.Owner.TheVariants as owners
-use Rattle.draft.proofs.Grown.{total_on_last, total_push}
+use Rattle.draft.proofs.Grown.{total_on_last}
 
 -- the last action has one effect more
 pub effects_of_last_action : (e : Effect) (xs : List Action) → 0 < length xs → effects_of_actions (on_last (action_with e) xs) ≡ effects_of_actions xs + 1
@@ -58,16 +59,16 @@ rates_entered d r s t = rates_of_last r d.problem.processes (some_process d.owne
 pub effects_action : (d : Draft) (c : ℕ) (n : List ℕ) → effects_of (entered d (action c n)).problem ≡ effects_of d.problem
 effects_action d c n =
     let a : Action = record { name = n; condition = c; effects = [] } in
-    omega (arith, total_push (λ (x : Action). length x.effects) d.problem.actions a)
+    omega (arith, sum_by_push (λ (x : Action). length x.effects) d.problem.actions a)
 
 -- an event begins with no effects
 pub effects_event : (d : Draft) (c : ℕ) → effects_of (entered d (event c)).problem ≡ effects_of d.problem
 effects_event d c =
     let v : Event = record { condition = c; effects = [] } in
-    omega (arith, total_push (λ (x : Event). length x.effects) d.problem.events v)
+    omega (arith, sum_by_push (λ (x : Event). length x.effects) d.problem.events v)
 
 -- a process begins with no rates
 pub rates_process : (d : Draft) (c : ℕ) → rates_of (entered d (process c)).problem ≡ rates_of d.problem
 rates_process d c =
     let p : Process = record { condition = c; rates = [] } in
-    omega (arith, total_push (λ (x : Process). length x.rates) d.problem.processes p)
+    omega (arith, sum_by_push (λ (x : Process). length x.rates) d.problem.processes p)

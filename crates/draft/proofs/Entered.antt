@@ -1,5 +1,6 @@
 -- A lawful draft stays lawful with one record more, where each question about it is answered by yes.
 use Rattle.std.proofs.Common.{◌≡◌, ℕ, ◌<◌, ◌≤◌, Bool, true, false, cond, not, ◌&&◌, ltb, List, [], ◌∷◌, ◌++◌, length, ℤ, Some, None, Option, sym, refl, ◌∙◌, subst, arith}
+use Rattle.std.specs.List.{list_all}
 use Rattle.std.proofs.lemmas.List.{length_push}
 use Rattle.std.proofs.lemmas.Bool.{and_parts, and_from, ltb-true, lt-ltb, false≢true}
 use Rattle.std.proofs.lemmas.Bool.Decides.{nat_tests}
@@ -16,7 +17,7 @@ use Rattle.rows.proofs.After.{each_push, each_weaker}
 use Rattle.rows.proofs.More.{Within, expressions_more, formulas_more, expressions_push, formulas_push}
 use Rattle.table.specs.Problem.{Action, Event, Process, Problem}
 use Rattle.table.specs.Depth.{shallow_expression, shallow_formula}
-use Rattle.table.specs.Lawful.{all, effects_of, rates_of, counts_of, lawful_tick, action_stands, event_stands, process_stands}
+use Rattle.table.specs.Lawful.{effects_of, rates_of, counts_of, lawful_tick, action_stands, event_stands, process_stands}
 use Rattle.draft.specs.Entry.{Entry, head, bit, number, expression, formula, action, event, process, effect, rate, goal, kind, change_kind}
 use Rattle.draft.specs.Draft.{Draft}
 use Rattle.draft.specs.Questions.{may_stand, has_room, lawful_fields, rows_stand, shallow, name_is_new, takes_effects, takes_rates, going_on}
@@ -39,8 +40,8 @@ pub record Passes (d : Draft) (e : Entry) : Type 0 where
 
 -- owners stand where there is more to name
 owners_more : (c d : Counts) (actions : List Action) (events : List Event) (processes : List Process) → Within c d
-    → (each_after (action_stands c) [] actions ≡ true) × (all (event_stands c) events ≡ true) × (all (process_stands c) processes ≡ true)
-    → (each_after (action_stands d) [] actions ≡ true) × (all (event_stands d) events ≡ true) × (all (process_stands d) processes ≡ true)
+    → (each_after (action_stands c) [] actions ≡ true) × (list_all (event_stands c) events ≡ true) × (list_all (process_stands c) processes ≡ true)
+    → (each_after (action_stands d) [] actions ≡ true) × (list_all (event_stands d) events ≡ true) × (list_all (process_stands d) processes ≡ true)
 owners_more c d actions events processes w h = (
   each_weaker (action_stands c) (action_stands d) (action_more c d w) [] actions h.0,
   all_weaker (event_stands c) (event_stands d) (event_more c d w) events h.1,

@@ -1,6 +1,9 @@
 -- Lists with one element more, or with the last one changed, and what stands where there is more to name.
-use Rattle.std.proofs.Common.{◌≡◌, ℕ, suc, ◌+◌, ◌-◌, ◌<◌, Bool, true, ltb, List, [], ◌∷◌, ◌++◌, length, get_or, set, refl, ap, subst, arith}
+use Rattle.std.proofs.Common.{◌≡◌, ℕ, suc, ◌+◌, ◌-◌, ◌<◌, Bool, true, ltb, List, [], ◌∷◌, ◌++◌, map, length, get_or, set, refl, ap, ◌∙◌, subst, arith}
+use Rattle.std.specs.List.{list_all, sum_by}
 use Rattle.std.proofs.lemmas.Bool.{and_parts, and_from}
+use Rattle.std.proofs.lemmas.List.{map_push}
+use Rattle.std.proofs.lemmas.List.Sums.{sum_by-cons}
 use Rattle.std.proofs.lemmas.Bool.Decides.{nat_tests}
 use Rattle.rows.specs.After.{each_after}
 use Rattle.rows.specs.Lawful.{Counts, effect_stands, rate_stands}
@@ -9,33 +12,33 @@ use Rattle.rows.specs.declared.row.Rate.{Rate}
 use Rattle.rows.proofs.More.{Within, effect_more, rate_more}
 use Rattle.table.specs.Problem.{Action, Event, Process}
 use Rattle.table.specs.Depth.{depths_after}
-use Rattle.table.specs.Lawful.{all, total, lawful_name, new_name, action_stands, event_stands, process_stands}
+use Rattle.table.specs.Lawful.{lawful_name, new_name, action_stands, event_stands, process_stands}
 use Rattle.draft.specs.Entered.{on_last, action_with, event_with, process_with}
 
 -- one element more that passes
-pub all_push : {X : Type 0} (passes : X → Bool) (xs : List X) (x : X) → all passes xs ≡ true → passes x ≡ true → all passes (xs ++ x ∷ []) ≡ true
+pub all_push : {X : Type 0} (passes : X → Bool) (xs : List X) (x : X) → list_all passes xs ≡ true → passes x ≡ true → list_all passes (xs ++ x ∷ []) ≡ true
 all_push passes [] x h p = and_from (passes x) true p refl
 all_push passes (y ∷ ys) x h p =
-    let q = and_parts (passes y) (all passes ys) h in
-    and_from (passes y) (all passes (ys ++ x ∷ [])) q.0 (all_push passes ys x q.1 p)
+    let q = and_parts (passes y) (list_all passes ys) h in
+    and_from (passes y) (list_all passes (ys ++ x ∷ [])) q.0 (all_push passes ys x q.1 p)
 
 -- a test that passes wherever another does
 pub all_weaker : {X : Type 0} (passes would : X → Bool) → ((x : X) → passes x ≡ true → would x ≡ true)
-    → (xs : List X) → all passes xs ≡ true → all would xs ≡ true
+    → (xs : List X) → list_all passes xs ≡ true → list_all would xs ≡ true
 all_weaker passes would w [] h = refl
 all_weaker passes would w (x ∷ xs) h =
-    let q = and_parts (passes x) (all passes xs) h in
-    and_from (would x) (all would xs) (w x q.0) (all_weaker passes would w xs q.1)
+    let q = and_parts (passes x) (list_all passes xs) h in
+    and_from (would x) (list_all would xs) (w x q.0) (all_weaker passes would w xs q.1)
 
 -- the last element is changed, and passes still
 pub all_on_last : {X : Type 0} (passes : X → Bool) (change : X → X) → ((x : X) → passes x ≡ true → passes (change x) ≡ true)
-    → (xs : List X) → all passes xs ≡ true → all passes (on_last change xs) ≡ true
+    → (xs : List X) → list_all passes xs ≡ true → list_all passes (on_last change xs) ≡ true
 all_on_last passes change w [] h = refl
 all_on_last passes change w (x ∷ []) h =
     and_from (passes (change x)) true (w x (and_parts (passes x) true h).0) refl
 all_on_last passes change w (x ∷ y ∷ xs) h =
-    let q = and_parts (passes x) (all passes (y ∷ xs)) h in
-    and_from (passes x) (all passes (on_last change (y ∷ xs))) q.0 (all_on_last passes change w (y ∷ xs) q.1)
+    let q = and_parts (passes x) (list_all passes (y ∷ xs)) h in
+    and_from (passes x) (list_all passes (on_last change (y ∷ xs))) q.0 (all_on_last passes change w (y ∷ xs) q.1)
 
 -- the same where an element may stand after those before it
 pub each_on_last : {X : Type 0} (may : List X → X → Bool) (change : X → X)
@@ -57,17 +60,12 @@ length_on_last change (x ∷ y ∷ xs) = ap (λ (n : ℕ). suc n) (length_on_las
 
 -- the last element grows by one
 pub total_on_last : {X : Type 0} (size : X → ℕ) (change : X → X) → ((x : X) → size (change x) ≡ size x + 1)
-    → (xs : List X) → 0 < length xs → total size (on_last change xs) ≡ total size xs + 1
+    → (xs : List X) → 0 < length xs → sum_by size (on_last change xs) ≡ sum_by size xs + 1
 total_on_last size change w [] h = let z : ⊥ = omega arith in absurd z
-total_on_last size change w (x ∷ []) h = omega (arith, w x)
+total_on_last size change w (x ∷ []) h = rw (sum_by-cons size (change x) [], sum_by-cons size x []) (omega (arith, w x))
 total_on_last size change w (x ∷ y ∷ xs) h =
     let l : 0 < length (y ∷ xs) = omega arith in
-    omega (arith, total_on_last size change w (y ∷ xs) l)
-
--- one element more
-pub total_push : {X : Type 0} (size : X → ℕ) (xs : List X) (x : X) → total size (xs ++ x ∷ []) ≡ total size xs + size x
-total_push size [] x = omega arith
-total_push size (y ∷ ys) x = omega (arith, total_push size ys x)
+    omega (arith, sum_by-cons size x (on_last change (y ∷ xs)), sum_by-cons size x (y ∷ xs), total_on_last size change w (y ∷ xs) l)
 
 -- one row more has its depth behind those of the rows before it
 pub depths_push : {X : Type 0} (depth : List ℕ → X → ℕ) (ds : List ℕ) (xs : List X) (x : X)
@@ -132,3 +130,7 @@ pub process_push : (c : Counts) (r : Rate) → rate_stands c r ≡ true
 process_push c r s p h =
     let q = and_parts (ltb p.condition c.formulas) _ h in
     and_from _ _ q.0 (all_push (rate_stands c) p.rates r q.1 s)
+
+-- one element more, as it is seen
+pub seen_push : {X Y : Type 0} (f : X → Y) (xs : List X) (x : X) (y : Y) {ys : List X} → ys ≡ xs ++ x ∷ [] → f x ≡ y → map f ys ≡ map f xs ++ y ∷ []
+seen_push f xs x y e s = ap (map f) e ∙ map_push f xs x ∙ ap (λ z. map f xs ++ z ∷ []) s

@@ -1,5 +1,5 @@
--- What the code's draft keeps beside its rows, and that each record leaves it so.
-use Rattle.std.proofs.Common.{◌≡◌, ℕ, ◌+◌, Bool, true, false, cond, List, [], ◌∷◌, ◌++◌, ℤ, Some, None, vec_items, Option, sym, refl, ap, ◌∙◌, arith}
+-- What a draft keeps true stays true with each record that passes.
+use Rattle.std.proofs.Common.{◌≡◌, ℕ, ◌+◌, Bool, true, false, List, [], ◌∷◌, ◌++◌, ℤ, Some, None, Option, sym, refl, ap, ◌∙◌}
 use Rattle.std.proofs.lemmas.Bool.{and_parts}
 use Rattle.faults.specs.declared.Fault.{Fault}
 use Rattle.faults.specs.declared.RowQuestion.TheVariants.{Fields, Rows, Depth, Name}
@@ -9,43 +9,23 @@ use Rattle.rows.specs.declared.row.Effect.{Effect}
 use Rattle.rows.specs.declared.row.Rate.{Rate}
 use Rattle.table.specs.Problem.{Problem}
 use Rattle.table.specs.Depth.{depths_of_expressions, depths_of_formulas, expression_depth, formula_depth}
-use Rattle.table.specs.Lawful.{effects_of, rates_of}
+use Rattle.table.specs.Lawful.{rates_of}
 use Rattle.draft.specs.Entry.{Entry, bit, number, expression, formula, action, event, process, effect, rate}
 use Rattle.draft.specs.Draft.{Draft}
 use Rattle.draft.specs.Questions.{ask, row_fault, Passes, lawful_fields, rows_stand, shallow, name_is_new, going_on, takes_effects, takes_rates}
-use Rattle.draft.specs.Entered.{entered, with_effect}
+use Rattle.draft.specs.Entered.{entered, with_tick, with_goal, with_effect}
 use Rattle.draft.specs.Lawful.{LawfulDraft}
-use Rattle.draft.specs.Seen.{seen}
-use Rattle.draft.specs.declared.draft.Draft.{Draft as Code}
+use Rattle.draft.specs.Kept.{Keeps}
 use Rattle.draft.specs.declared.entry.Owner.{Owner}
 use Rattle.draft.specs.declared.entry.Owner.TheVariants as owners
 use Rattle.draft.proofs.Grown.{depths_push}
 use Rattle.draft.proofs.Counted.{effects_entered, rates_entered, effects_action, effects_event, rates_process}
 use Rattle.draft.proofs.Entered as entering
 
--- the ghost fields of a draft with these depths and counts
-abbrev pub Keeps : Draft → List ℕ → List ℕ → ℕ → ℕ → Type 0
-Keeps d es fs effects rates = record {
-  lawful : LawfulDraft d;
-  expressions_measured : es ≡ depths_of_expressions d.problem.expressions;
-  formulas_measured : fs ≡ depths_of_formulas d.problem.formulas;
-  effects_counted : effects ≡ effects_of d.problem;
-  rates_counted : rates ≡ rates_of d.problem;
-}
-
-pub kept : (s : Code) → Keeps (seen s) (vec_items s.expression_depths) (vec_items s.formula_depths) s.effects s.rates
-kept s = record {
-  lawful = s.lawful;
-  expressions_measured = s.expressions_measured;
-  formulas_measured = s.formulas_measured;
-  effects_counted = s.effects_counted;
-  rates_counted = s.rates_counted;
-}
-
 -- a question that refuses nothing was answered by yes, and so were those after it
 pub ask_passed : (b : Bool) (f : Fault) (rest : Option Fault) → ask b f rest ≡ None → (b ≡ true) × (rest ≡ None)
 ask_passed true f rest h = (refl, h)
-ask_passed false f rest h = let z : ◌≡◌ {A = ℕ} 0 1 = cc in absurd (omega arith)
+ask_passed false f rest h = cc
 
 pub passes : (d : Draft) (e : Entry) → Passes d e → entering.Passes d e
 passes d e h =
@@ -165,7 +145,10 @@ module _ (d : Draft) (es fs : List ℕ) (n m : ℕ) (k : Keeps d es fs n m) wher
         rates_counted = ap (λ i. i + 1) k.rates_counted ∙ sym (rates_entered d r k.lawful.2 t);
       }
 
--- what holds both after a record and without it
-pub either : {X : Type 0} (P : X → Type 0) (b : Bool) (x y : X) → P x → P y → P (cond b x y)
-either P true x y h k = h
-either P false x y h k = k
+-- the tick length and the goal are no part that an effect changes
+pub effect_between : (t g : ℕ) (o : Option Owner) (e : Effect) (p : Problem)
+    → with_tick t (with_goal g (with_effect o e p)) ≡ with_effect o e (with_tick t (with_goal g p))
+effect_between t g (Some owners.Action) e p = refl
+effect_between t g (Some owners.Event) e p = refl
+effect_between t g (Some owners.Process) e p = refl
+effect_between t g None e p = refl

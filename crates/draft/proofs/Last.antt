@@ -1,6 +1,7 @@
 -- A list of owners whose last one is changed in place.
 use Rattle.std.proofs.Common.{◌≡◌, ℕ, ◌-◌, ◌<◌, Bool, true, false, cond, List, map, length, get_or, set, sym, ap, ◌∙◌, subst, arith}
-use Rattle.std.proofs.lemmas.List.{map-set, get_or-map, set-get_or, length-map}
+use Rattle.std.proofs.Math.Seq.{map-set_same}
+use Rattle.std.proofs.lemmas.List.{map-set, get_or-map, length-map}
 use Rattle.draft.specs.Entered.{on_last}
 use Rattle.draft.proofs.Grown.{on_last_set}
 
@@ -18,7 +19,7 @@ module _ {X Y : Type 0} (f : X → Y) (g : Y → Y) (xs : List X) (n : ℕ) (x w
       map-set f xs (n - 1) w ∙ ap (set (map f xs) (n - 1)) (e ∙ ap g (sym seen_last)) ∙ sym q
 
   same : f w ≡ f x → map f (set xs (n - 1) w) ≡ map f xs
-  same e = map-set f xs (n - 1) w ∙ ap (set (map f xs) (n - 1)) (e ∙ sym seen_last) ∙ set-get_or (map f xs) (n - 1) (f x)
+  same e = map-set_same f xs (n - 1) w x (e ∙ ap f is)
 
   -- the last one is changed only if b
   pub last_changed : (b : Bool) → f w ≡ cond b (g (f x)) (f x) → map f (set xs (n - 1) w) ≡ cond b (on_last g (map f xs)) (map f xs)

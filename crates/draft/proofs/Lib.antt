@@ -1,4 +1,3 @@
-pub mod Loops
 pub mod Grown
 pub mod Counted
 pub mod Entered

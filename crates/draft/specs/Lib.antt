@@ -1,8 +1,10 @@
+pub mod Kinds
 pub mod Entry
 pub mod Draft
 pub mod Questions
 pub mod Entered
 pub mod Lawful
 pub mod Plain
+pub mod Kept
 pub mod Seen
 pub mod Outcome

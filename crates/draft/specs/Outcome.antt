@@ -30,6 +30,11 @@ Refused o (Record f) = o ≡ Err (Record f)
 Refused o (Row f) = o ≡ Err (Row f)
 Refused o Memory = Unit {0}
 
+-- the answer r to some records leads to the outcome o: at Ok the value after is the outcome's; what a refusal leaves is not said
+abbrev pub LeadsTo : {X Y : Type 0} → Result X Fault → Result Y Fault → X → Type 0
+LeadsTo o (Ok y) after = o ≡ Ok after
+LeadsTo o (Err f) after = Refused o f
+
 -- the answer r to a file tells the outcome o: at Ok the value after is the outcome's, and a refusal leaves `left`
 abbrev pub TellsFile : {X Y : Type 0} → Result X Fault → X → Result Y Fault → X → Type 0
 TellsFile o left (Ok y) after = o ≡ Ok after

@@ -1,5 +1,6 @@
 -- What is asked of a record before a draft takes it. The first question whose answer is no refuses.
 use Rattle.std.specs.Prelude.{◌≡◌, ℕ, ◌+◌, Bool, true, false, not, ◌&&◌, length, Some, None, Option, nat_lt}
+use Rattle.faults.specs.Faults.{record_fault}
 use Rattle.faults.specs.declared.Fault.{Fault}
 use Rattle.faults.specs.declared.Fault.TheVariants.{Record, Row}
 use Rattle.faults.specs.declared.RecordQuestion.{RecordQuestion}
@@ -24,13 +25,9 @@ abbrev pub ask : Bool → Fault → Option Fault → Option Fault
 ask true fault rest = rest
 ask false fault rest = Some fault
 
--- a fault of the record that begins at this byte
-abbrev pub record_fault : RecordQuestion → ℕ → Fault
-record_fault question at = Record (record { question = question; at = at })
-
 -- a fault of the record that comes next
 abbrev pub row_fault : RowQuestion → Draft → Fault
-row_fault question d = Row (record { question = question; count = records_of d + 1 })
+row_fault question d = Row (record { question = question; place = records_of d + 1 })
 
 -- effects belong to an action or an event, rates to a process
 abbrev pub takes_effects : Option Owner → Bool

@@ -1,34 +1,40 @@
-// The draft. What it holds is lawful at every moment, but for what has not come yet.
-ghost use Rattle.std.specs.Prelude.{◌≡◌};
-ghost use Rattle.table.specs.Depth.{depths_of_expressions, depths_of_formulas};
-ghost use Rattle.table.specs.Lawful.{effects_of, rates_of};
-ghost use Rattle.table.specs.Seen.{problem_of};
-ghost use Rattle.draft.specs.Lawful.{LawfulDraft};
-
+//! The draft. What it holds is lawful at every moment, but for what has not come yet.
 use crate::entry::Owner;
-use std::alloc::Global;
-use table::contents::Contents;
+use std::marker::Model;
+use table::contents::Parts;
 
 pub mod asks;
 pub mod grows;
 pub mod seals;
 pub mod takes;
 
-// The depth of each row is kept beside it, and how many effects and rates there are beside their owners.
-#[derive(Drop)]
+/// The head brings the tick length, and the goal comes last.
+///
+/// The depth of each row stands beside the rows and not in them: a sealed table needs none, so a vector of rows with depths would have
+/// to be copied into one of rows by `seal`, which would be no plainer, and which cannot fail and then could. How many effects and rates there are over all
+/// owners is kept, which is plainer than three sums of lengths with a proof that they fit.
+#[derive(Debug, Drop)]
 pub struct Draft {
-    heap: Global,
-    contents: Contents,
+    tick: Option<u16>,
+    parts: Parts,
+    goal: Option<u16>,
+    owner: Option<Owner>,
     expression_depths: Vec<u8>,
     formula_depths: Vec<u8>,
     effects: usize,
     rates: usize,
-    owner: Option<Owner>,
-    begun: bool,
-    ended: bool,
-    ghost lawful: { LawfulDraft (record { problem = problem_of contents; owner = owner; begun = begun; ended = ended }) },
-    ghost expressions_measured: { expression_depths.items ≡ depths_of_expressions contents.rows.expressions.items },
-    ghost formulas_measured: { formula_depths.items ≡ depths_of_formulas contents.rows.formulas.items },
-    ghost effects_counted: { effects ≡ effects_of (problem_of contents) },
-    ghost rates_counted: { rates ≡ rates_of (problem_of contents) },
+}
+
+/// A draft is seen as the problem so far, and what decides which record may come next.
+impl Model for Draft {
+    ghost use Rattle.draft.specs.Draft as plain;
+
+    ghost Value = { plain.Draft };
+
+    ghost use Rattle.draft.specs.Kept.{Keeps};
+    ghost use Rattle.draft.specs.Seen.{seen};
+
+    ghost view = { seen };
+
+    ghost invariant = { λ d. Keeps (seen d) d.expression_depths.items d.formula_depths.items d.effects d.rates };
 }

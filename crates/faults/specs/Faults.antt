@@ -1,5 +1,6 @@
 -- The number, the layer and the place of a fault.
-use Rattle.std.specs.Prelude.{ℕ, Some, None, Option}
+use Rattle.std.specs.Prelude.{ℕ, Some, None, Ok, Err, Option, Result}
+use Rattle.std.specs.declared.alloc.AllocError.{AllocError}
 use Rattle.faults.specs.declared.Layer.{Layer}
 use Rattle.faults.specs.declared.Layer.TheVariants as layers
 use Rattle.faults.specs.declared.RecordQuestion.{RecordQuestion}
@@ -8,6 +9,10 @@ use Rattle.faults.specs.declared.RowQuestion.{RowQuestion}
 use Rattle.faults.specs.declared.RowQuestion.TheVariants.{Limit, Fields, Rows, Depth, Name, Goal}
 use Rattle.faults.specs.declared.Fault.{Fault}
 use Rattle.faults.specs.declared.Fault.TheVariants.{Record, Row, Memory}
+
+-- a fault of the record that begins at this byte
+abbrev pub record_fault : RecordQuestion → ℕ → Fault
+record_fault question at = Record (record { question = question; place = at })
 
 abbrev pub record_number : RecordQuestion → ℕ
 record_number Whole = 1
@@ -35,6 +40,12 @@ layer Memory = None
 
 -- a record's place is the offset of its first byte, a row's the count of its record from 1
 abbrev pub place : Fault → Option ℕ
-place (Record f) = Some f.at
-place (Row f) = Some f.count
+place (Record f) = Some f.place
+place (Row f) = Some f.place
 place Memory = None
+
+-- number and place, or want of memory
+abbrev pub refused : Fault → Result (ℕ × ℕ) AllocError
+refused (Record f) = Ok (record_number f.question, f.place)
+refused (Row f) = Ok (row_number f.question, f.place)
+refused Memory = Err (record {})

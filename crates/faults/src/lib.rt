@@ -1,64 +1,74 @@
-// Why a call is refused: one enum with a case for each layer, which holds what that layer tells of the refusal.
-// Upper layers pass a fault on whole.
+//! Why a call is refused: one enum with a case for each layer, which holds what that layer tells of the refusal.
+//! Upper layers pass a fault on whole, and `?` makes one of want of memory.
 
 #![tactic(auto)]
 
 ghost use Rattle.std.specs.Prelude.{◌≡◌};
 ghost use Rattle.faults.specs.declared.Fault.TheVariants.{Memory};
-ghost use Rattle.faults.specs.Faults.{number, layer, place};
+ghost use Rattle.faults.specs.Faults.{number, layer, place, refused, record_fault};
 
 use std::alloc::AllocError;
 
-// The layers that refuse.
-#[derive(Clone, Copy)]
+mod text;
+
+/// The layers that refuse.
+#[derive(Clone, Copy, Debug, PartialEq, Eq, Hash)]
 pub enum Layer {
     Record,
     Row,
 }
 
-// What is asked of a record as bytes.
-#[derive(Clone, Copy)]
+/// What is asked of a record as bytes, each with the number of the question.
+#[derive(Clone, Copy, Debug, PartialEq, Eq, Hash)]
 pub enum RecordQuestion {
-    Whole,
-    Kind,
-    Order,
+    Whole = 1,
+    Kind = 2,
+    Order = 3,
 }
 
-// A record that was refused as bytes, by the offset of its first byte.
-#[derive(Clone, Copy)]
-pub struct RecordFault {
-    pub question: RecordQuestion,
-    pub at: usize,
-}
-
-// What is asked of a record as a row of the problem.
-#[derive(Clone, Copy)]
+/// What is asked of a record as a row of the problem, each with the number of the question.
+#[derive(Clone, Copy, Debug, PartialEq, Eq, Hash)]
 pub enum RowQuestion {
-    Limit,
-    Fields,
-    Rows,
-    Depth,
-    Name,
-    Goal,
+    Limit = 4,
+    Fields = 5,
+    Rows = 6,
+    Depth = 7,
+    Name = 8,
+    Goal = 9,
 }
 
-// A record that was refused as a row, by its count among the records, from 1.
-#[derive(Clone, Copy)]
-pub struct RowFault {
-    pub question: RowQuestion,
-    pub count: usize,
+/// The question whose answer was no, and where, counted as its layer counts.
+#[derive(Clone, Copy, Debug, PartialEq, Eq, Hash)]
+pub struct Refusal<Q> {
+    pub question: Q,
+    pub place: usize,
 }
 
-// Want of memory is a case of its own, with no number, layer or place.
-#[derive(Clone, Copy)]
+/// Number, layer and place are told by a method each, which stand in the interface for who asks for one alone.
+///
+/// A record is refused as bytes at the offset of its first byte, and as a row at its count among the records, from 1.
+/// Want of memory is a case of its own, with no number, layer or place.
+#[derive(Clone, Copy, Debug, PartialEq, Eq, Hash)]
 pub enum Fault {
-    Record(RecordFault),
-    Row(RowFault),
+    Record(Refusal<RecordQuestion>),
+    Row(Refusal<RowQuestion>),
     Memory,
 }
 
+impl RecordQuestion {
+    /// The fault of a record that begins at this byte, where the answer is no.
+    pub fn at(self, place: usize) -> Fault
+        ensures { result ≡ record_fault self place }
+    {
+        Fault::Record(Refusal {
+            question: self,
+            place,
+        })
+    }
+}
+
 impl From<AllocError> for Fault {
-    ghost from_gives = { λ _ r. r ≡ Memory };
+    ghost from_gives = { λ _ f. f ≡ Memory };
 
     fn from(_e: AllocError) -> Fault {
         Fault::Memory
@@ -66,29 +76,18 @@ impl From<AllocError> for Fault {
 }
 
 impl Fault {
-    // The number of the question whose answer was no.
+    /// The number of the question whose answer was no.
     pub fn number(&self) -> Option<u16>
         ensures { result ≡ number self.now }
     {
         match self {
-            Fault::Record(f) => match f.question {
-                RecordQuestion::Whole => Some(1),
-                RecordQuestion::Kind => Some(2),
-                RecordQuestion::Order => Some(3),
-            },
-            Fault::Row(f) => match f.question {
-                RowQuestion::Limit => Some(4),
-                RowQuestion::Fields => Some(5),
-                RowQuestion::Rows => Some(6),
-                RowQuestion::Depth => Some(7),
-                RowQuestion::Name => Some(8),
-                RowQuestion::Goal => Some(9),
-            },
+            Fault::Record(refusal) => Some(refusal.question as u16),
+            Fault::Row(refusal) => Some(refusal.question as u16),
             Fault::Memory => None,
         }
     }
 
-    // The layer that refused.
+    /// The layer that refused.
     pub fn layer(&self) -> Option<Layer>
         ensures { result ≡ layer self.now }
     {
@@ -99,14 +98,24 @@ impl Fault {
         }
     }
 
-    // Where it refused, counted as its layer counts.
+    /// Where it refused, counted as its layer counts.
     pub fn place(&self) -> Option<usize>
         ensures { result ≡ place self.now }
     {
         match self {
-            Fault::Record(f) => Some(f.at),
-            Fault::Row(f) => Some(f.count),
+            Fault::Record(refusal) => Some(refusal.place),
+            Fault::Row(refusal) => Some(refusal.place),
             Fault::Memory => None,
         }
+    }
+
+    /// The number and the place of a refusal. Want of memory is none, and is handed on.
+    pub fn refused(&self) -> Result<(u16, usize), AllocError>
+        ensures { result ≡ refused self.now }
+    {
+        let (Some(number), Some(place)) = (self.number(), self.place()) else {
+            return Err(AllocError);
+        };
+        Ok((number, place))
     }
 }

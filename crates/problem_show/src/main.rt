@@ -1,14 +1,12 @@
-// Reads the problem in the working folder and prints all that it holds, or why it is refused.
+//! Reads the problem in the working folder and prints all that it holds, or why it is refused.
 
 #![tactic(auto)]
 
 use anyhow::anyhow;
-use fault_text::Sentence;
 use faults::Fault;
+use input::first_bytes;
 use listing::Listing;
 use records::load::load_table;
-use std::alloc::AllocError;
-use std::io::Read;
 use std::process::ExitCode;
 use std::{fs, io};
 
@@ -16,35 +14,24 @@ mod listing;
 
 const PROBLEM: &str = "problem.rec";
 
-// How many bytes of the file count.
-const MOST: u64 = 60_000;
-
-// The first bytes of the problem's file; none if it is missing.
+/// The first bytes of the problem's file; none if it is missing.
 fn problem_bytes(rt: &HostRuntime) -> io::Result<Vec<u8>> {
-    let mut bytes = Vec::new(rt.alloc());
     match fs::open(rt, PROBLEM) {
-        Ok(file) => {
-            let mut first = file.take(MOST);
-            first.read_to_end(&mut bytes)?;
-            Ok(bytes)
-        }
-        Err(e) => match e.kind() {
-            io::ErrorKind::NotFound => Ok(bytes),
-            _ => Err(e),
-        },
+        Ok(file) => first_bytes(rt.alloc(), file),
+        Err(e) if e.kind() == io::ErrorKind::NotFound => Ok(Vec::new(rt.alloc())),
+        Err(e) => Err(e),
     }
 }
 
-// A refusal is an answer: its number and place, and a sentence for a person. Want of memory has neither, and is an error.
+/// A refusal is an answer: its number and place, and a sentence for a person. Want of memory has neither, and is an error.
 fn print_refusal(rt: &HostRuntime, fault: Fault) -> anyhow::Result<()> {
-    let (Some(number), Some(place)) = (fault.number(), fault.place()) else {
-        return Err(AllocError.into());
-    };
+    let (number, place) = fault.refused()?;
     println!(rt; "refused {number} {place}")?;
-    rt.eprintln(Sentence(fault))?;
+    rt.eprintln(fault)?;
     Ok(())
 }
 
+/// The name of the file stands before its error in one text; `context` would print that text otherwise where it is long.
 fn run(rt: &HostRuntime) -> anyhow::Result<()> {
     let bytes = match problem_bytes(rt) {
         Ok(bytes) => bytes,
@@ -60,7 +47,7 @@ fn run(rt: &HostRuntime) -> anyhow::Result<()> {
     }
 }
 
-// An error is printed once, under the program's name.
+/// An error is printed once, under the program's name.
 fn main(rt: HostRuntime) -> ExitCode {
     match run(&rt) {
         Ok(()) => ExitCode::SUCCESS,

@@ -1,4 +1,3 @@
-pub mod Front
 pub mod Read
 pub mod Taken
 pub mod Told

@@ -1,5 +1,5 @@
 -- What is read of a record is of the record's kind.
-use Rattle.std.proofs.Common.{◌≡◌, ℕ, Bool, true, false, cond, eqb, List, Some, None, Option, sym, refl, ap, ◌∙◌, subst, arith}
+use Rattle.std.proofs.Common.{◌≡◌, ℕ, Bool, true, false, cond, eqb, List, Some, None, Option, sym, refl, ap, ◌∙◌, subst}
 use Rattle.std.specs.Option.{option_map}
 use Rattle.rows.specs.declared.row.Change.{Change}
 use Rattle.rows.specs.declared.row.Change.TheVariants.{Set, Assign, Increase, Decrease}
@@ -12,23 +12,23 @@ use Rattle.records.specs.Decoded.{decoded, flag, expression_read, formula_read, 
 
 -- a kind that is read fits its body's length
 pub fits_read : (n : ℕ) (o : Option Kind) (k : Kind) → Some k ≡ fitting n o → body_fits k n ≡ true
-fits_read n None k h = let z : ◌≡◌ {A = ℕ} 0 1 = cc in absurd (omega arith)
+fits_read n None k h = cc
 fits_read n (Some j) k h = go (body_fits j n) refl h
   where
     go : (b : Bool) → body_fits j n ≡ b → Some k ≡ cond b (Some j) None → body_fits k n ≡ true
     go true e t = let same : k ≡ j = cc in ap (λ i. body_fits i n) same ∙ e
-    go false e t = let z : ◌≡◌ {A = ℕ} 0 1 = cc in absurd (omega arith)
+    go false e t = cc
 
 -- an entry that is made of what is read, if anything
 made : {X : Type 0} (f : X → Entry) (k : Kind) (o : Option X) → ((x : X) → o ≡ Some x → kind (f x) ≡ k) → (e : Entry) → Some e ≡ option_map f o → kind e ≡ k
-made f k None h e t = let z : ◌≡◌ {A = ℕ} 0 1 = cc in absurd (omega arith)
+made f k None h e t = cc
 made f k (Some x) h e t = let same : e ≡ f x = cc in ap kind same ∙ h x refl
 
 set_kind : (b to : ℕ) (c : Change) → set_read b to ≡ Some c → change_kind c ≡ kinds.BitEffect
 set_kind b to c h = go (flag to) h
   where
     go : (o : Option Bool) → option_map (Set b) o ≡ Some c → change_kind c ≡ kinds.BitEffect
-    go None t = let z : ◌≡◌ {A = ℕ} 0 1 = cc in absurd (omega arith)
+    go None t = cc
     go (Some v) t = let same : Set b v ≡ c = cc in sym (ap change_kind same)
 
 -- the first test of a chain that passes decides
@@ -39,7 +39,7 @@ chosen P c false x rest p q t = q t
 change_kind_is : (way n e : ℕ) (c : Change) → change_read way n e ≡ Some c → change_kind c ≡ kinds.NumberEffect
 change_kind_is way n e c h =
     let P : Change → Type 0 = λ x. change_kind x ≡ kinds.NumberEffect in
-    let never : None ≡ Some c → P c = λ t. let z : ◌≡◌ {A = ℕ} 0 1 = cc in absurd (omega arith) in
+    let never : None ≡ Some c → P c = λ t. cc in
     chosen P c (eqb way 0) (Assign n e) _ refl
     (chosen P c (eqb way 1) (Increase n e) _ refl (chosen P c (eqb way 2) (Decrease n e) None refl never)) h
 

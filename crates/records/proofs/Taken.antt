@@ -1,12 +1,13 @@
 -- One record after another: a step at a time.
-use Rattle.std.proofs.Common.{◌≡◌, ℕ, zero, suc, ◌-◌, ◌<◌, ◌≤◌, Bool, true, false, cond, eqb, leb, List, [], ◌∷◌, length, take, drop, Some, None, Ok, Err, Option, Result, sym, refl, ap, ◌∙◌, arith, length-drop}
+use Rattle.std.proofs.Common.{◌≡◌, ℕ, zero, suc, ◌-◌, ◌<◌, ◌≤◌, Bool, true, false, cond, eqb, leb, List, [], ◌∷◌, length, take, drop, Some, None, Ok, Err, Option, Result, MatchResult, IsOk, sym, refl, ap, ◌∙◌, arith, length-drop}
 use Rattle.faults.specs.declared.Fault.{Fault}
 use Rattle.std.proofs.lemmas.Bool.{eqb-true, cond-true}
 use Rattle.faults.specs.declared.Fault.TheVariants.{Record, Row, Memory}
 use Rattle.faults.specs.declared.RecordQuestion.TheVariants.{Whole}
 use Rattle.faults.specs.declared.RowQuestion.TheVariants.{Goal}
 use Rattle.draft.specs.Draft.{Draft, blank, sealed}
-use Rattle.draft.specs.Questions.{record_fault, row_fault, ask}
+use Rattle.faults.specs.Faults.{record_fault}
+use Rattle.draft.specs.Questions.{row_fault, ask}
 use Rattle.draft.specs.Outcome.{Refused, RefusedRecord, refused_or}
 use Rattle.records.specs.Bytes.{Raw, pair, first, whole}
 use Rattle.records.specs.Loaded.{with_record, onward, taken, all_taken, finished, loaded}
@@ -19,14 +20,14 @@ whole_shorter len code xs r h = go (leb 2 len) (leb (len - 2) (length xs)) h
     go true true t =
         let e : drop (len - 2) xs ≡ r.rest = cc in
         omega (arith, length-drop (len - 2) xs, ap length e)
-    go true false t = let z : ◌≡◌ {A = ℕ} 0 1 = cc in absurd (omega arith)
-    go false b t = let z : ◌≡◌ {A = ℕ} 0 1 = cc in absurd (omega arith)
+    go true false t = cc
+    go false b t = cc
 
 pub first_shorter : (xs : List ℕ) (r : Raw) → first xs ≡ Some r → length r.rest < length xs
-first_shorter [] r h = let z : ◌≡◌ {A = ℕ} 0 1 = cc in absurd (omega arith)
-first_shorter (a ∷ []) r h = let z : ◌≡◌ {A = ℕ} 0 1 = cc in absurd (omega arith)
-first_shorter (a ∷ b ∷ []) r h = let z : ◌≡◌ {A = ℕ} 0 1 = cc in absurd (omega arith)
-first_shorter (a ∷ b ∷ c ∷ []) r h = let z : ◌≡◌ {A = ℕ} 0 1 = cc in absurd (omega arith)
+first_shorter [] r h = cc
+first_shorter (a ∷ []) r h = cc
+first_shorter (a ∷ b ∷ []) r h = cc
+first_shorter (a ∷ b ∷ c ∷ []) r h = cc
 first_shorter (a ∷ b ∷ c ∷ d ∷ xs) r h = omega (arith, whole_shorter (pair a b) (pair c d) xs r h)
 
 -- what takes the bytes behind the first record may be exchanged for what takes fewer bytes alike
@@ -89,7 +90,7 @@ module _ (size : ℕ) (d : Draft) (xs : List ℕ) (some : 0 < length xs) where
 
 -- bytes that are not empty
 pub some_left : (n : ℕ) → false ≡ eqb n 0 → 0 < n
-some_left zero h = let z : ◌≡◌ {A = ℕ} 0 1 = cc in absurd (omega arith)
+some_left zero h = cc
 some_left (suc n) h = omega arith
 
 pub none_left : (n : ℕ) → true ≡ eqb n 0 → n ≡ 0
@@ -107,12 +108,17 @@ loaded_ended (Ok d') d h = go d'.ended refl h
   where
     go : (b : Bool) → d'.ended ≡ b → refused_or (ask b (row_fault Goal d') None) d' ≡ Ok d → d.ended ≡ true
     go true e t = let same : d' ≡ d = cc in sym (ap (λ x. x.ended) same) ∙ e
-    go false e t = let z : ◌≡◌ {A = ℕ} 0 1 = cc in absurd (omega arith)
-loaded_ended (Err f) d h = let z : ◌≡◌ {A = ℕ} 0 1 = cc in absurd (omega arith)
+    go false e t = cc
+loaded_ended (Err f) d h = cc
 
 pub ended_sealed : (d : Draft) → d.ended ≡ true → sealed d ≡ None → ⊥
-ended_sealed d e h = let t = cond-true d.ended (Some d.problem) None e in let z : ◌≡◌ {A = ℕ} 0 1 = cc in omega arith
+ended_sealed d e h = let t = cond-true d.ended (Some d.problem) None e in cc
 
 -- so a draft into which a file was loaded is sealed
 pub never_unsealed : (bytes : List ℕ) (d : Draft) → loaded bytes ≡ Ok d → sealed d ≡ None → ⊥
 never_unsealed bytes d h n = ended_sealed d (loaded_ended (all_taken (length bytes) (length bytes) blank bytes) d h) n
+
+-- a result whose error is ruled out
+pub surely_ok : {X Y : Type 0} (P : X → Type 0) (Q : Y → Type 0) (r : Result X Y) → MatchResult r P Q → ((y : Y) → Q y → ⊥) → IsOk r
+surely_ok P Q (Ok x) h n = refl
+surely_ok P Q (Err y) h n = absurd (n y h)

@@ -6,7 +6,8 @@ use Rattle.faults.specs.declared.RowQuestion.TheVariants as row_questions
 use Rattle.table.specs.Problem.{Problem}
 use Rattle.draft.specs.Entry.{Entry}
 use Rattle.draft.specs.Draft.{Draft, blank}
-use Rattle.draft.specs.Questions.{record_fault, row_fault, kind_refused, entry_refused, seal_refused}
+use Rattle.faults.specs.Faults.{record_fault}
+use Rattle.draft.specs.Questions.{row_fault, kind_refused, entry_refused, seal_refused}
 use Rattle.draft.specs.Entered.{entered}
 use Rattle.draft.specs.Outcome.{refused_or}
 use Rattle.draft.specs.declared.entry.Kind.{Kind}
@@ -56,13 +57,17 @@ all_taken zero size d bytes = Ok d
 all_taken (suc n) size d [] = Ok d
 all_taken (suc n) size d (b ∷ bytes) = taken (all_taken n size) d (size - length (b ∷ bytes)) (first (b ∷ bytes))
 
+-- all records of these bytes
+abbrev pub file_taken : Draft → List ℕ → Result Draft Fault
+file_taken d bytes = all_taken (length bytes) (length bytes) d bytes
+
 -- Load: from a blank draft, and at the end the goal has to have come
 abbrev pub finished : Result Draft Fault → Result Draft Fault
 finished (Ok d) = refused_or (seal_refused d) d
 finished (Err f) = Err f
 
 abbrev pub loaded : List ℕ → Result Draft Fault
-loaded bytes = finished (all_taken (length bytes) (length bytes) blank bytes)
+loaded bytes = finished (file_taken blank bytes)
 
 -- the problem of a file that is loaded and sealed
 abbrev pub problem_in : Result Draft Fault → Result Problem Fault

@@ -1,4 +1,4 @@
-// A problem as records: a length, a kind and fields, all of them little-endian.
+//! A problem as records: a length, a kind and fields, all of them little-endian.
 
 #![tactic(auto)]
 

@@ -1,7 +1,10 @@
-// One row of each kind.
+//! One row of each kind.
+//!
+//! A row names others by number and does not own them: one row may be named by many, in a file it is named by that number, and it is
+//! to be worked out once.
 
-// A whole number, worked out in a state: a sum, difference or product names two earlier expressions.
-#[derive(Clone, Copy)]
+/// A whole number, worked out in a state: a sum, difference or product names two earlier expressions.
+#[derive(Clone, Copy, Debug, PartialEq, Eq, Hash)]
 pub enum Expression {
     Constant(i32),
     Number(u16),
@@ -10,8 +13,8 @@ pub enum Expression {
     Product(u16, u16),
 }
 
-// How an expression is compared with zero.
-#[derive(Clone, Copy)]
+/// How an expression is compared with zero.
+#[derive(Clone, Copy, Debug, PartialEq, Eq, Hash)]
 pub enum Comparison {
     AtMost,
     Less,
@@ -20,8 +23,8 @@ pub enum Comparison {
     AtLeast,
 }
 
-// What holds or does not hold in a state: not, and and or name earlier formulas.
-#[derive(Clone, Copy)]
+/// What holds or does not hold in a state: not, and and or name earlier formulas.
+#[derive(Clone, Copy, Debug, PartialEq, Eq, Hash)]
 pub enum Formula {
     True,
     Bit(u16),
@@ -31,8 +34,8 @@ pub enum Formula {
     Or(u16, u16),
 }
 
-// What an effect does: sets a bit, or changes a number by an expression.
-#[derive(Clone, Copy)]
+/// What an effect does: sets a bit, or changes a number by an expression.
+#[derive(Clone, Copy, Debug, PartialEq, Eq, Hash)]
 pub enum Change {
     Set(u16, bool),
     Assign(u16, u16),
@@ -40,15 +43,15 @@ pub enum Change {
     Decrease(u16, u16),
 }
 
-// A change that applies where its condition, a formula, holds.
-#[derive(Clone, Copy)]
+/// A change that applies where its condition, a formula, holds.
+#[derive(Clone, Copy, Debug, PartialEq, Eq, Hash)]
 pub struct Effect {
     pub condition: u16,
     pub change: Change,
 }
 
-// A number that rises by an expression with each unit of time.
-#[derive(Clone, Copy)]
+/// A number that rises by an expression with each unit of time.
+#[derive(Clone, Copy, Debug, PartialEq, Eq, Hash)]
 pub struct Rate {
     pub number: u16,
     pub expression: u16,

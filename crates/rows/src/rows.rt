@@ -1,4 +1,4 @@
-// Expressions and formulas in the order in which they may be worked out: each names earlier rows only, and bits and numbers that exist.
+//! Expressions and formulas in the order in which they may be worked out: each names earlier rows only, and bits and numbers that exist.
 ghost use Rattle.std.specs.Prelude.{◌≡◌, true, vec_len};
 ghost use Rattle.rows.specs.Lawful.{lawful_expressions, lawful_formulas};
 
@@ -7,7 +7,11 @@ use crate::row::{Expression, Formula};
 pub mod adds;
 pub mod asks;
 
-#[derive(Drop)]
+/// The fields are there for all to read, so contracts name them and there is no model; `plain` is what grows.
+///
+/// How many bits and numbers there are is a count: rows ask only whether what they name is below it, and the first values are no rows.
+/// With these in place of the counts, `add_bit` and `add_number`, which cannot fail, could.
+#[derive(Debug, Drop)]
 pub struct Rows {
     pub bits: usize,
     pub numbers: usize,

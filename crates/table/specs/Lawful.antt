@@ -1,5 +1,6 @@
 -- A lawful problem: within the limits, with values in their range, names that are told apart, and rows that name what exists.
-use Rattle.std.specs.Prelude.{◌≡◌, ℕ, ◌+◌, ◌<◌, ◌≤◌, Bool, true, not, ◌&&◌, ◌||◌, List, [], ◌∷◌, length, ◌==◌, nat_le, nat_lt}
+use Rattle.std.specs.Prelude.{◌≡◌, ℕ, ◌+◌, ◌<◌, ◌≤◌, Bool, true, not, ◌&&◌, ◌||◌, List, [], length, ◌==◌, nat_le, nat_lt}
+use Rattle.std.specs.List.{list_all, sum_by}
 use Rattle.std.specs.Str.{bytes_eq}
 use Rattle.rows.specs.After.{each_after}
 use Rattle.rows.specs.Range.{in_range}
@@ -7,46 +8,37 @@ use Rattle.rows.specs.Lawful.{Counts, lawful_expressions, lawful_formulas, effec
 use Rattle.table.specs.Problem.{Action, Event, Process, Problem}
 use Rattle.table.specs.Depth.{shallow_expressions, shallow_formulas}
 
--- what passes a test at every element
-abbrev pub all : {X : Type 0} → (X → Bool) → List X → Bool
-all passes [] = true
-all passes (x ∷ xs) = passes x && all passes xs
-
-abbrev pub total : {X : Type 0} → (X → ℕ) → List X → ℕ
-total size [] = 0
-total size (x ∷ xs) = size x + total size xs
-
 -- a to z, 0 to 9, hyphen and underscore
 abbrev pub letter : ℕ → Bool
 letter c = (nat_le 97 c && nat_le c 122) || ((nat_le 48 c && nat_le c 57) || (c == 45 || c == 95))
 
 -- a name has 1 to 24 letters
 abbrev pub lawful_name : List ℕ → Bool
-lawful_name name = nat_le 1 (length name) && (nat_le (length name) 24 && all letter name)
+lawful_name name = nat_le 1 (length name) && (nat_le (length name) 24 && list_all letter name)
 
 -- no action has this name
 abbrev pub new_name : List Action → List ℕ → Bool
-new_name actions name = all (λ a. not (bytes_eq a.name name)) actions
+new_name actions name = list_all (λ a. not (bytes_eq a.name name)) actions
 
 abbrev pub action_stands : Counts → List Action → Action → Bool
 action_stands c before a =
-    lawful_name a.name && (new_name before a.name && (nat_lt a.condition c.formulas && all (effect_stands c) a.effects))
+    lawful_name a.name && (new_name before a.name && (nat_lt a.condition c.formulas && list_all (effect_stands c) a.effects))
 
 abbrev pub event_stands : Counts → Event → Bool
-event_stands c e = nat_lt e.condition c.formulas && all (effect_stands c) e.effects
+event_stands c e = nat_lt e.condition c.formulas && list_all (effect_stands c) e.effects
 
 abbrev pub process_stands : Counts → Process → Bool
-process_stands c p = nat_lt p.condition c.formulas && all (rate_stands c) p.rates
+process_stands c p = nat_lt p.condition c.formulas && list_all (rate_stands c) p.rates
 
 -- bit effects and number effects count together, over all actions and events
 abbrev pub effects_of_actions : List Action → ℕ
-effects_of_actions actions = total (λ a. length a.effects) actions
+effects_of_actions actions = sum_by (λ a. length a.effects) actions
 
 abbrev pub effects_of_events : List Event → ℕ
-effects_of_events events = total (λ e. length e.effects) events
+effects_of_events events = sum_by (λ e. length e.effects) events
 
 abbrev pub rates_of_processes : List Process → ℕ
-rates_of_processes processes = total (λ p. length p.rates) processes
+rates_of_processes processes = sum_by (λ p. length p.rates) processes
 
 abbrev pub effects_of : Problem → ℕ
 effects_of p = effects_of_actions p.actions + effects_of_events p.events
@@ -82,12 +74,12 @@ LawfulFormulas p =
 abbrev pub LawfulOwners : Problem → Type 0
 LawfulOwners p =
     (each_after (action_stands (counts_of p)) [] p.actions ≡ true)
-    × (all (event_stands (counts_of p)) p.events ≡ true)
-    × (all (process_stands (counts_of p)) p.processes ≡ true)
+    × (list_all (event_stands (counts_of p)) p.events ≡ true)
+    × (list_all (process_stands (counts_of p)) p.processes ≡ true)
 
 -- all but the tick length and the goal, which a draft does not have from the start
 abbrev pub LawfulRows : Problem → Type 0
-LawfulRows p = (all in_range p.numbers ≡ true) × LawfulExpressions p × LawfulFormulas p × LawfulOwners p
+LawfulRows p = (list_all in_range p.numbers ≡ true) × LawfulExpressions p × LawfulFormulas p × LawfulOwners p
 
 -- a tick takes 1 to 1,000 units of time
 abbrev pub lawful_tick : ℕ → Bool

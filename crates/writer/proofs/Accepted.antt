@@ -2,6 +2,7 @@
 use Rattle.std.proofs.Common.{◌≡◌, true, false, List, [], ◌∷◌, ◌++◌, map, Option, sym, refl, ap, ◌∙◌, subst, append_assoc}
 use Rattle.std.specs.List.{flat_map}
 use Rattle.std.proofs.lemmas.List.{append-nil}
+use Rattle.std.proofs.lemmas.List.Concat.{flat_map_single}
 use Rattle.table.specs.Problem.{Problem}
 use Rattle.draft.specs.Entry.{Entry}
 use Rattle.draft.specs.Draft.{Draft}
@@ -37,13 +38,8 @@ module _ {X : Type 0} (make : X → List Entry) (D : List X → Draft) (whole : 
   pub section : Accepts (D []) (flat_map make whole) (D whole)
   section = section_left [] whole refl
 
--- lists of one element joined
-singles : {X Y : Type 0} (f : X → Y) (xs : List X) → flat_map (λ x. f x ∷ []) xs ≡ map f xs
-singles f [] = refl
-singles f (x ∷ xs) = ap (λ ys. f x ∷ ys) (singles f xs)
-
 -- the same where each element is one entry
 pub single_section : {X : Type 0} (make : X → Entry) (D : List X → Draft) (whole : List X)
     → ((pre : List X) (x : X) → Place whole pre x → Accepts (D pre) (make x ∷ []) (D (pre ++ x ∷ [])))
     → Accepts (D []) (map make whole) (D whole)
-single_section make D whole step = subst (λ es. Accepts (D []) es (D whole)) (singles make whole) (section (λ x. make x ∷ []) D whole step)
+single_section make D whole step = subst (λ es. Accepts (D []) es (D whole)) (flat_map_single make whole) (section (λ x. make x ∷ []) D whole step)

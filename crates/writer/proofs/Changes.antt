@@ -1,11 +1,12 @@
 -- What belongs to one owner of a written problem: the effects of an action or event, and the rates of a process.
 use Rattle.std.proofs.Common.{◌≡◌, ◌<◌, true, List, [], ◌∷◌, ◌++◌, map, length, Some, refl, ap, ◌∙◌}
+use Rattle.std.specs.List.{list_all}
 use Rattle.std.proofs.lemmas.Bool.{lt-ltb}
 use Rattle.rows.specs.Lawful.{effect_stands, rate_stands}
 use Rattle.rows.specs.declared.row.Effect.{Effect}
 use Rattle.rows.specs.declared.row.Rate.{Rate}
 use Rattle.table.specs.Problem.{Problem}
-use Rattle.table.specs.Lawful.{all, counts_of, effects_of, rates_of}
+use Rattle.table.specs.Lawful.{counts_of, effects_of, rates_of}
 use Rattle.draft.specs.Entry.{effect, rate}
 use Rattle.draft.specs.Questions.{takes_effects}
 use Rattle.draft.specs.Entered.{on_last, with_processes, with_effect, process_with}
@@ -19,7 +20,7 @@ use Rattle.writer.proofs.Places.{all_at, fewer_at}
 pub effects_accepted : (w : Owner) → takes_effects (Some w) ≡ true → (E : List Effect → Problem)
     → ((pre : List Effect) (e : Effect) → with_effect (Some w) e (E pre) ≡ E (pre ++ e ∷ []))
     → (es : List Effect) → ((pre : List Effect) → length pre < length es → effects_of (E pre) < 512)
-    → ((pre : List Effect) → all (effect_stands (counts_of (E pre))) es ≡ true)
+    → ((pre : List Effect) → list_all (effect_stands (counts_of (E pre))) es ≡ true)
     → Accepts (so_far (Some w) (E [])) (map effect es) (so_far (Some w) (E es))
 effects_accepted w t E grows es room h =
     single_section effect (λ pre. so_far (Some w) (E pre)) es
@@ -32,7 +33,7 @@ effects_accepted w t E grows es room h =
 pub rates_accepted : (R : List Rate → Problem)
     → ((pre : List Rate) (r : Rate) → with_processes (on_last (process_with r) (R pre).processes) (R pre) ≡ R (pre ++ r ∷ []))
     → (rs : List Rate) → ((pre : List Rate) → length pre < length rs → rates_of (R pre) < 64)
-    → ((pre : List Rate) → all (rate_stands (counts_of (R pre))) rs ≡ true)
+    → ((pre : List Rate) → list_all (rate_stands (counts_of (R pre))) rs ≡ true)
     → Accepts (so_far (Some owners.Process) (R [])) (map rate rs) (so_far (Some owners.Process) (R rs))
 rates_accepted R grows rs room h =
     single_section rate (λ pre. so_far (Some owners.Process) (R pre)) rs

@@ -1,6 +1,6 @@
 -- What is written of an entry is read back as that entry.
 use Rattle.std.proofs.Common.{◌≡◌, ℕ, ◌+◌, ◌-◌, ◌/◌, ◌%◌, true, false, ◌&&◌, leb, List, [], ◌∷◌, ◌++◌, map, length, get_or, Some, refl, ap, arith}
-use Rattle.std.specs.List.{flat_map}
+use Rattle.std.specs.List.{flat_map, list_all}
 use Rattle.std.proofs.lemmas.List.{take_at, drop_at, length-append}
 use Rattle.std.proofs.lemmas.Bool.{and_parts, ltb-true}
 use Rattle.std.proofs.lemmas.Bool.Decides.{nat_tests}
@@ -9,10 +9,10 @@ use Rattle.rows.specs.declared.row.Comparison.TheVariants.{AtMost, Less, Equal, 
 use Rattle.rows.specs.declared.row.Formula.TheVariants.{True, Bit, Compare, Not, And, Or}
 use Rattle.rows.specs.declared.row.Change.{Change}
 use Rattle.rows.specs.declared.row.Change.TheVariants.{Set, Assign, Increase, Decrease}
-use Rattle.table.specs.Lawful.{all}
 use Rattle.draft.specs.Entry.{Entry, head, bit, number, expression, formula, action, event, process, effect, rate, goal, kind}
 use Rattle.records.specs.Bytes.{whole, first, pair, pair_bytes}
-use Rattle.records.specs.Kinds.{code, kind_read}
+use Rattle.draft.specs.Kinds.{code}
+use Rattle.records.specs.Kinds.{kind_read}
 use Rattle.records.specs.Decoded.{decoded, effect_of}
 use Rattle.writer.specs.Written.{fields, tail, encoded}
 use Rattle.writer.proofs.Numbers.{pair_back, value_back}
@@ -23,10 +23,10 @@ abbrev pub body : Entry → List ℕ
 body e = flat_map pair_bytes (fields e) ++ tail e
 
 -- fields from their bytes
-fields_back : (xs : List ℕ) → all small xs ≡ true → map (λ n. pair (n % 256) (n / 256 % 256)) xs ≡ xs
+fields_back : (xs : List ℕ) → list_all small xs ≡ true → map (λ n. pair (n % 256) (n / 256 % 256)) xs ≡ xs
 fields_back [] h = refl
 fields_back (x ∷ xs) h =
-    let p = and_parts (small x) (all small xs) h in
+    let p = and_parts (small x) (list_all small xs) h in
     let e = pair_back x (ltb-true x 65536 p.0) in
     cc (fields_back xs p.1)
 

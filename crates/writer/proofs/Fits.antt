@@ -1,5 +1,6 @@
 -- Entries that fit into their records: so do those that a draft of few rows accepts.
 use Rattle.std.proofs.Common.{◌≡◌, ℕ, Bool, true, false, ltb, refl, arith}
+use Rattle.std.specs.List.{list_all}
 use Rattle.std.proofs.lemmas.Bool.Decides.{nat_tests}
 use Rattle.rows.specs.Lawful.{effect_stands}
 use Rattle.rows.specs.declared.row.Expression.TheVariants.{Constant, Number, Sum, Difference, Product}
@@ -8,7 +9,7 @@ use Rattle.rows.specs.declared.row.Formula.TheVariants.{True, Bit, Compare, Not,
 use Rattle.rows.specs.declared.row.Change.{Change}
 use Rattle.rows.specs.declared.row.Change.TheVariants.{Set, Assign, Increase, Decrease}
 use Rattle.table.specs.Problem.{Problem}
-use Rattle.table.specs.Lawful.{all, FewRows, counts_of}
+use Rattle.table.specs.Lawful.{FewRows, counts_of}
 use Rattle.draft.specs.Entry.{Entry, head, bit, number, expression, formula, action, event, process, effect, rate, goal}
 use Rattle.draft.specs.Draft.{Draft}
 use Rattle.draft.specs.Questions.{lawful_fields, rows_stand}
@@ -21,7 +22,7 @@ small n = ltb n 65536
 
 -- every field takes at most two bytes, and values and letters are lawful
 abbrev pub Fits : Entry → Type 0
-Fits e = (all small (fields e) ≡ true) × (lawful_fields e ≡ true)
+Fits e = (list_all small (fields e) ≡ true) × (lawful_fields e ≡ true)
 
 -- an effect that stands, by its change
 fits_effect : (p : Problem) (c : ℕ) (x : Change) → FewRows p

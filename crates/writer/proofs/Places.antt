@@ -1,9 +1,11 @@
 -- An element of a list, behind those before it.
-use Rattle.std.proofs.Common.{◌≡◌, ℕ, ◌+◌, ◌<◌, ◌≤◌, Bool, true, ltb, List, [], ◌∷◌, ◌++◌, length, refl, ap, ◌∙◌, append_assoc, arith}
+use Rattle.std.proofs.Common.{◌≡◌, ℕ, ◌+◌, ◌<◌, ◌≤◌, Bool, true, ltb, List, [], ◌∷◌, ◌++◌, length, sym, refl, ap, ◌∙◌, append_assoc, arith}
+use Rattle.std.specs.List.{list_all, sum_by}
 use Rattle.std.proofs.lemmas.List.{append-nil, length-append}
+use Rattle.std.proofs.lemmas.List.Folds.{list_all-append}
+use Rattle.std.proofs.lemmas.List.Sums.{sum_by-append, sum_by-cons}
 use Rattle.std.proofs.lemmas.Bool.{and_parts, lt-ltb}
 use Rattle.rows.specs.After.{each_after}
-use Rattle.table.specs.Lawful.{all, total}
 use Rattle.draft.specs.Entered.{on_last}
 
 -- in the list `whole`, x stands right behind those of `pre`
@@ -21,14 +23,9 @@ each_there may before (y ∷ pre) x rest h = rw append_assoc at (each_there may 
 pub each_at : {X : Type 0} {whole pre : List X} {x : X} (may : List X → X → Bool) → Place whole pre x → each_after may [] whole ≡ true → may pre x ≡ true
 each_at {pre = pre} {x = x} may at h = each_there may [] pre x at.rest (ap (each_after may []) at.is ∙ h)
 
--- an element passes a test that all pass
-all_there : {X : Type 0} (passes : X → Bool) (pre : List X) (x : X) (rest : List X) → all passes (pre ++ x ∷ rest) ≡ true → passes x ≡ true
-all_there passes [] x rest h = (and_parts _ _ h).0
-all_there passes (y ∷ pre) x rest h = all_there passes pre x rest (and_parts _ _ h).1
-
 -- it passes a test that all pass
-pub all_at : {X : Type 0} {whole pre : List X} {x : X} (passes : X → Bool) → Place whole pre x → all passes whole ≡ true → passes x ≡ true
-all_at {pre = pre} {x = x} passes at h = all_there passes pre x at.rest (ap (all passes) at.is ∙ h)
+pub all_at : {X : Type 0} {whole pre : List X} {x : X} (passes : X → Bool) → Place whole pre x → list_all passes whole ≡ true → passes x ≡ true
+all_at {pre = pre} {x = x} passes at h = (and_parts _ _ (and_parts _ _ (sym (list_all-append passes pre (x ∷ at.rest)) ∙ ap (list_all passes) at.is ∙ h)).1).0
 
 -- fewer stand before it than there are
 pub fewer_at : {X : Type 0} {whole pre : List X} {x : X} → Place whole pre x → length pre < length whole
@@ -38,14 +35,10 @@ fewer_at {pre = pre} {x = x} at = omega (arith, ap length at.is, length-append p
 pub room_at : {X : Type 0} {whole pre : List X} {x : X} {limit : ℕ} → Place whole pre x → length whole ≤ limit → ltb (length pre) limit ≡ true
 room_at at l = lt-ltb _ _ (omega (arith, fewer_at at))
 
--- an element counts toward the total behind those before it
-total_there : {X : Type 0} (size : X → ℕ) (pre : List X) (x : X) (rest : List X) → total size pre + size x ≤ total size (pre ++ x ∷ rest)
-total_there size [] x rest = omega arith
-total_there size (y ∷ pre) x rest = omega (arith, total_there size pre x rest)
-
 -- those before it and it are together at most as large as all
-pub total_at : {X : Type 0} {whole pre : List X} {x : X} (size : X → ℕ) → Place whole pre x → total size pre + size x ≤ total size whole
-total_at {pre = pre} {x = x} size at = rw at.is at (total_there size pre x at.rest)
+pub total_at : {X : Type 0} {whole pre : List X} {x : X} (size : X → ℕ) → Place whole pre x → sum_by size pre + size x ≤ sum_by size whole
+total_at {pre = pre} {x = x} size at =
+    omega (arith, ap (sum_by size) at.is, sum_by-append size pre (x ∷ at.rest), sum_by-cons size x at.rest)
 
 -- the last element is changed
 pub on_last_push : {X : Type 0} (change : X → X) (pre : List X) (x : X) → on_last change (pre ++ x ∷ []) ≡ pre ++ change x ∷ []

@@ -1,12 +1,12 @@
 -- The rows of a written problem, section by section: bits, numbers, expressions and formulas.
 use Rattle.std.proofs.Common.{◌≡◌, ℕ, ◌≤◌, Bool, true, List, [], map, length, ℤ, None, refl}
+use Rattle.std.specs.List.{list_all}
 use Rattle.rows.specs.Range.{in_range}
 use Rattle.rows.specs.Lawful.{lawful_expressions, lawful_formulas, expression_stands}
 use Rattle.rows.specs.declared.row.Expression.{Expression}
 use Rattle.rows.specs.declared.row.Expression.TheVariants.{Constant, Number, Sum, Difference, Product}
 use Rattle.rows.specs.declared.row.Formula.{Formula}
 use Rattle.table.specs.Problem.{Problem}
-use Rattle.table.specs.Lawful.{all}
 use Rattle.table.specs.Depth.{shallow_expressions, shallow_formulas, shallow_expression, shallow_formula}
 use Rattle.draft.specs.Entry.{bit, number, expression, formula}
 use Rattle.draft.specs.Questions.{lawful_constant}
@@ -21,7 +21,7 @@ bits_accepted q vs l =
     (λ pre v at. (record { stands = refl; room = room_at at l; fields = refl; rows = refl; shallow = refl; new = refl }, refl))
 
 -- the numbers
-pub numbers_accepted : (q : Problem) (zs : List ℤ) → length zs ≤ 32 → all in_range zs ≡ true
+pub numbers_accepted : (q : Problem) (zs : List ℤ) → length zs ≤ 32 → list_all in_range zs ≡ true
     → Accepts (so_far None (with_numbers [] q)) (map number zs) (so_far None (with_numbers zs q))
 numbers_accepted q zs l h =
     single_section number (λ pre. so_far None (with_numbers pre q)) zs

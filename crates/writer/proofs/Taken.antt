@@ -7,7 +7,7 @@ use Rattle.draft.specs.Draft.{Draft}
 use Rattle.draft.specs.Entered.{entered}
 use Rattle.draft.specs.Lawful.{LawfulDraft}
 use Rattle.draft.proofs.Entered.{Passes, lawful_entered}
-use Rattle.records.specs.Kinds.{code}
+use Rattle.draft.specs.Kinds.{code}
 use Rattle.records.specs.Loaded.{with_record, onward, taken, all_taken}
 use Rattle.writer.specs.Written.{encoded}
 use Rattle.writer.proofs.Fits.{Fits, fits_entry}

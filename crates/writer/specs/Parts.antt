@@ -7,9 +7,8 @@ use Rattle.rows.specs.declared.row.Effect.{Effect}
 use Rattle.rows.specs.declared.row.Rate.{Rate}
 use Rattle.table.specs.Seen.{action_of, event_of, process_of, problem_of}
 use Rattle.table.specs.declared.contents.Action.{Action}
+use Rattle.table.specs.declared.contents.Conditional.{Conditional}
 use Rattle.table.specs.declared.contents.Contents.{Contents}
-use Rattle.table.specs.declared.contents.Event.{Event}
-use Rattle.table.specs.declared.contents.Process.{Process}
 use Rattle.draft.specs.Entry.{bit, number, expression, formula, effect, rate}
 use Rattle.writer.specs.Written.{written, encoded, action_entries, event_entries, process_entries}
 
@@ -34,10 +33,10 @@ rate_bytes r = encoded (rate r)
 abbrev pub action_bytes : Action → List ℕ
 action_bytes a = flat_map encoded (action_entries (action_of a))
 
-abbrev pub event_bytes : Event → List ℕ
+abbrev pub event_bytes : Conditional Effect → List ℕ
 event_bytes e = flat_map encoded (event_entries (event_of e))
 
-abbrev pub process_bytes : Process → List ℕ
+abbrev pub process_bytes : Conditional Rate → List ℕ
 process_bytes p = flat_map encoded (process_entries (process_of p))
 
 abbrev pub contents_bytes : Contents → List ℕ

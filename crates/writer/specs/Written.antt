@@ -14,7 +14,7 @@ use Rattle.table.specs.Problem.{Action, Event, Process, Problem}
 use Rattle.draft.specs.Entry.{Entry, head, bit, number, expression, formula, action, event, process, effect, rate, goal, kind}
 use Rattle.draft.specs.declared.entry.Kind.{Kind}
 use Rattle.records.specs.Bytes.{pair_bytes, value_bytes}
-use Rattle.records.specs.Kinds.{code}
+use Rattle.draft.specs.Kinds.{code}
 
 -- a record: its length, its kind, its fields, and behind them a value's bytes or a name's letters
 abbrev pub record_bytes : Kind → List ℕ → List ℕ → List ℕ

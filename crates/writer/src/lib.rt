@@ -1,4 +1,4 @@
-// A sealed table as records, in one order, so that loading them gives the same table again.
+//! A sealed table as records, in one order, so that loading them gives the same table again.
 
 #![tactic(auto)]
 

@@ -1,14 +1,15 @@
-// Bytes behind bytes: fields, records, and whatever is written as records. Where memory is wanting nothing is said of the bytes.
-ghost use Rattle.std.specs.Prelude.{◌≡◌, ℕ, List, ◌++◌, OnOk};
+//! Bytes behind bytes: fields, records, and whatever is written as records. The vector is lent, as the standard library's writers are, and `OnOk` with
+//! what stands behind what is the library's way to say what was written. Where memory is wanting nothing is said of the bytes.
+ghost use Rattle.std.specs.Prelude.{◌≡◌, ℕ, List, [], ◌∷◌, ◌++◌, OnOk};
 ghost use Rattle.std.specs.List.{flat_map};
 ghost use Rattle.records.specs.Bytes.{pair_bytes};
-ghost use Rattle.records.specs.Kinds.{code};
 ghost use Rattle.writer.specs.Written.{record_bytes};
 
 use draft::entry::Kind;
 use std::alloc::AllocError;
+use table::contents::Conditional;
 
-// What is written as records: `bytes` says which.
+/// What is written: `bytes` says as which bytes.
 pub trait Put {
     ghost bytes: { Self → List ℕ };
 
@@ -16,43 +17,26 @@ pub trait Put {
         ensures { OnOk result (out.new.items ≡ out.old.items ++ bytes self.now) };
 }
 
-fn put_pair(out: &mut Vec<u8>, n: usize) -> Result<(), AllocError>
-    ensures { OnOk result (out.new.items ≡ out.old.items ++ pair_bytes n) }
-{
-    out.push((n % 256) as u8)?;
-    out.push((n / 256 % 256) as u8)?;
-    Ok(())
+/// A field of a record.
+impl Put for u16 {
+    ghost bytes = { pair_bytes };
+
+    fn put(&self, out: &mut Vec<u8>) -> Result<(), AllocError> {
+        out.extend_from_slice(&self.to_le_bytes())
+    }
 }
 
-fn put_fields(out: &mut Vec<u8>, fields: &[u16]) -> Result<(), AllocError>
-    ensures { OnOk result (out.new.items ≡ out.old.items ++ flat_map pair_bytes fields.now) }
+/// All of a list, one behind another.
+pub(crate) fn put_all<T: Put>(out: &mut Vec<u8>, items: &[T]) -> Result<(), AllocError>
+    ensures { OnOk result (out.new.items ≡ out.old.items ++ flat_map T.bytes items.now) }
 {
-    for f in fields {
-        put_pair(out, *f as usize)?;
+    for x in items {
+        x.put(out)?;
     }
     Ok(())
 }
 
-fn code(kind: Kind) -> usize
-    ensures { result ≡ code kind }
-{
-    match kind {
-        Kind::Head => 1,
-        Kind::Bit => 2,
-        Kind::Number => 3,
-        Kind::Expression => 4,
-        Kind::Formula => 5,
-        Kind::Action => 6,
-        Kind::Event => 7,
-        Kind::Process => 8,
-        Kind::BitEffect => 9,
-        Kind::NumberEffect => 10,
-        Kind::Rate => 11,
-        Kind::Goal => 12,
-    }
-}
-
-// A record: its length, its kind, its fields, and behind them a value's bytes or a name's letters.
+/// A record: its length, its kind, its fields, and behind them a value's bytes or a name's letters.
 pub(crate) fn put_record(
     out: &mut Vec<u8>,
     kind: Kind,
@@ -61,19 +45,23 @@ pub(crate) fn put_record(
 ) -> Result<(), AllocError>
     ensures { OnOk result (out.new.items ≡ out.old.items ++ record_bytes kind fields.now tail.now) }
 {
-    put_pair(out, 2 + (fields.len() * 2 + tail.len()))?;
-    put_pair(out, code(kind))?;
-    put_fields(out, fields)?;
-    out.extend_from_slice(tail)?;
-    Ok(())
+    // A lawful problem's records are short; of a longer one the definition takes the two low bytes too.
+    let length = 2 + (fields.len() * 2 + tail.len());
+    out.extend_from_slice(&length.to_le_bytes()[..2])?;
+    u16::from(kind).put(out)?;
+    put_all(out, fields)?;
+    out.extend_from_slice(tail)
 }
 
-// All of a list, one behind another.
-pub(crate) fn put_all<T: Put>(out: &mut Vec<u8>, items: &[T]) -> Result<(), AllocError>
-    ensures { OnOk result (out.new.items ≡ out.old.items ++ flat_map T.bytes items.now) }
+/// The record of what has a condition, and behind it what belongs to that.
+pub(crate) fn put_owner<T: Put>(
+    out: &mut Vec<u8>,
+    kind: Kind,
+    name: &[u8],
+    body: &Conditional<T>,
+) -> Result<(), AllocError>
+    ensures { OnOk result (out.new.items ≡ out.old.items ++ (record_bytes kind (body.now.condition ∷ []) name.now ++ flat_map T.bytes body.now.parts.items)) }
 {
-    for x in items {
-        x.put(out)?;
-    }
-    Ok(())
+    put_record(out, kind, &[body.condition], name)?;
+    put_all(out, body.parts.as_slice())
 }

@@ -1,17 +1,16 @@
-// What is asked of a record before the draft takes it; nothing is changed by asking.
-ghost use Rattle.std.specs.Prelude.{◌≡◌, ◌≤◌, map, length, nat_lt, slice_index};
+//! What is asked of a record before the draft takes it; nothing is changed by asking.
+ghost use Rattle.std.specs.Prelude.{◌≡◌, ◌≤◌, map, None, length, nat_lt, slice_index};
 ghost use Rattle.table.specs.Depth.{above, expression_depth, formula_depth};
-ghost use Rattle.table.specs.Lawful.{all, letter, lawful_name, new_name};
-ghost use Rattle.table.specs.Seen.{action_of, problem_of};
+ghost use Rattle.table.specs.Lawful.{letter, lawful_name, new_name};
+ghost use Rattle.table.specs.Seen.{action_of};
 ghost use Rattle.draft.specs.Draft.{terms_of, owners_of, records_of};
-ghost use Rattle.draft.specs.Questions.{going_on, may_stand, has_room, kind_refused, lawful_constant, lawful_fields, rows_stand, shallow, name_is_new, entry_refused, takes_effects, takes_rates, row_fault};
+ghost use Rattle.draft.specs.Questions.{ask, going_on, may_stand, has_room, kind_refused, lawful_fields, rows_stand, shallow, name_is_new, entry_refused, row_fault};
 ghost use Rattle.draft.specs.Outcome.{fault};
 ghost use Rattle.draft.specs.Plain.{plain_entry};
-ghost use Rattle.draft.specs.Seen.{seen};
 
 use crate::draft::Draft;
 use crate::entry::{Entry, Kind, Owner};
-use faults::{Fault, RecordFault, RecordQuestion, RowFault, RowQuestion};
+use faults::{Fault, RecordQuestion, Refusal, RowQuestion};
 use rows::row::{Expression, Formula};
 use rows::rows::asks::in_range;
 use table::contents::Action;
@@ -40,42 +39,27 @@ const LONGEST_NAME: usize = 24;
 
 const DEEPEST: u16 = 12;
 
-// a to z, 0 to 9, hyphen and underscore.
+/// a to z, 0 to 9, hyphen and underscore.
 fn is_letter(c: u8) -> bool
     ensures { result ≡ letter c }
 {
-    (97 <= c && c <= 122) || (48 <= c && c <= 57) || c == 45 || c == 95
-}
-
-fn are_letters(name: &[u8]) -> bool
-    ensures { result ≡ all letter name.now }
-{
-    for c in name {
-        if !is_letter(*c) {
-            return false;
-        }
-    }
-    true
+    matches!(c, b'a'..=b'z' | b'0'..=b'9' | b'-' | b'_')
 }
 
 fn is_lawful_name(name: &[u8]) -> bool
     ensures { result ≡ lawful_name name.now }
 {
-    1 <= name.len() && name.len() <= LONGEST_NAME && are_letters(name)
+    (1..=LONGEST_NAME).contains(&name.len()) && name.iter().all(|c| is_letter(*c))
 }
 
 fn is_new_name(actions: &[Action], name: &[u8]) -> bool
     ensures { result ≡ new_name (map action_of actions.now) name.now }
 {
-    for a in actions {
-        if a.name.as_slice() == name {
-            return false;
-        }
-    }
-    true
+    actions.iter().all(|a| a.name.as_slice() != name)
 }
 
-// The depth of a row over two parts, of which the depths are kept.
+/// The depth of a row over two parts, of which the depths are kept. They are lent as a slice here and below: a draft has two such
+/// vectors, and a type of their own would only hand on to the slice.
 fn above(depths: &[u8], a: u16, b: u16) -> u16
     ensures { result ≡ above depths.now a b }
 {
@@ -86,18 +70,14 @@ fn above(depths: &[u8], a: u16, b: u16) -> u16
 fn depth_at(depths: &[u8], k: u16) -> u8
     ensures { result ≡ slice_index depths.now k }
 {
-    match depths.get(k as usize) {
-        Some(d) => *d,
-        None => 0,
-    }
+    depths.get(usize::from(k)).copied().unwrap_or(0)
 }
 
 pub(crate) fn expression_depth(depths: &[u8], expression: Expression) -> u16
     ensures { result ≡ expression_depth depths.now expression }
 {
     match expression {
-        Expression::Constant(_) => 1,
-        Expression::Number(_) => 1,
+        Expression::Constant(_) | Expression::Number(_) => 1,
         Expression::Sum(a, b) | Expression::Difference(a, b) | Expression::Product(a, b) => above(
             depths, a, b,
         ),
@@ -108,253 +88,174 @@ pub(crate) fn formula_depth(depths: &[u8], formula: Formula) -> u16
     ensures { result ≡ formula_depth depths.now formula }
 {
     match formula {
-        Formula::True => 1,
-        Formula::Bit(_) => 1,
-        Formula::Compare(_, _) => 1,
+        Formula::True | Formula::Bit(_) | Formula::Compare(_, _) => 1,
         Formula::Not(f) => above(depths, f, f),
         Formula::And(f, g) | Formula::Or(f, g) => above(depths, f, g),
     }
 }
 
-fn is_lawful_constant(expression: Expression) -> bool
-    ensures { result ≡ lawful_constant expression }
-{
-    match expression {
-        Expression::Constant(value) => in_range(value),
-        Expression::Number(_) => true,
-        Expression::Sum(_, _) | Expression::Difference(_, _) | Expression::Product(_, _) => true,
-    }
-}
-
-// Whether an entry's values lie in their ranges and its letters are lawful.
+/// Whether an entry's values lie in their ranges and its letters are lawful.
 fn has_lawful_fields(entry: Entry<'_>) -> bool
     ensures { result ≡ lawful_fields (plain_entry entry.entry) }
 {
     match entry {
-        Entry::Head(tick) => 1 <= tick && tick <= LONGEST_TICK,
-        Entry::Bit(_) => true,
-        Entry::Number(value) => in_range(value),
-        Entry::Expression(e) => is_lawful_constant(e),
-        Entry::Formula(_) => true,
-        Entry::Action { condition: _, name } => is_lawful_name(name),
-        Entry::Event(_) => true,
-        Entry::Process(_) => true,
-        Entry::Effect(_) => true,
-        Entry::Rate(_) => true,
-        Entry::Goal(_) => true,
+        Entry::Head(tick) => (1..=LONGEST_TICK).contains(&tick),
+        Entry::Number(value) | Entry::Expression(Expression::Constant(value)) => in_range(value),
+        Entry::Action { name, .. } => is_lawful_name(name),
+        _ => true,
     }
 }
 
 impl Draft {
-    // How many bits, numbers, expressions and formulas there are.
+    /// How many bits, numbers, expressions and formulas there are.
     fn rows(&self) -> usize
-        ensures value { result ≡ terms_of (problem_of self.now.contents) }
+        ensures value { result ≡ terms_of self.now.problem }
         ensures bound { result ≤ 2144 }
     {
-        let c = &self.contents;
-        c.bits.len() + c.numbers.len() + c.rows.expressions.len() + c.rows.formulas.len()
+        let p = &self.parts;
+        p.bits.len() + p.numbers.len() + p.rows.expressions.len() + p.rows.formulas.len()
     }
 
-    // How many actions, events and processes there are.
+    /// How many actions, events and processes there are.
     fn owners(&self) -> usize
-        ensures value { result ≡ owners_of (problem_of self.now.contents) }
+        ensures value { result ≡ owners_of self.now.problem }
         ensures bound { result ≤ 128 }
     {
-        let c = &self.contents;
-        c.actions.len() + c.events.len() + c.processes.len()
+        let p = &self.parts;
+        p.actions.len() + p.events.len() + p.processes.len()
     }
 
-    // How many records the draft has taken.
+    /// How many records the draft has taken.
     fn records(&self) -> usize
-        ensures value { result ≡ records_of (seen self.now) }
+        ensures value { result ≡ records_of self.now }
         ensures bound { result ≤ 2850 }
     {
-        usize::from(self.begun)
+        usize::from(self.tick.is_some())
             + self.rows()
             + self.owners()
             + self.effects
             + self.rates
-            + usize::from(self.ended)
+            + usize::from(self.goal.is_some())
     }
 
-    // Whether records behind the head and before the goal may come.
+    /// Whether records behind the head and before the goal may come.
     fn is_going_on(&self) -> bool
-        ensures { result ≡ going_on (seen self.now) }
+        ensures { result ≡ going_on self.now }
     {
-        self.begun && !self.ended
+        self.tick.is_some() && self.goal.is_none()
     }
 
-    fn takes_effects(&self) -> bool
-        ensures { result ≡ takes_effects self.now.owner }
-    {
-        match self.owner {
-            Some(Owner::Action) => true,
-            Some(Owner::Event) => true,
-            Some(Owner::Process) => false,
-            None => false,
-        }
-    }
-
-    fn takes_rates(&self) -> bool
-        ensures { result ≡ takes_rates self.now.owner }
-    {
-        match self.owner {
-            Some(Owner::Action) => false,
-            Some(Owner::Event) => false,
-            Some(Owner::Process) => true,
-            None => false,
-        }
-    }
-
+    /// Effects belong to an action or an event, rates to a process.
     fn may_stand(&self, kind: Kind) -> bool
-        ensures { result ≡ may_stand (seen self.now) kind }
+        ensures { result ≡ may_stand self.now kind }
     {
         match kind {
-            Kind::Head => !self.begun,
-            Kind::BitEffect => self.is_going_on() && self.takes_effects(),
-            Kind::NumberEffect => self.is_going_on() && self.takes_effects(),
-            Kind::Rate => self.is_going_on() && self.takes_rates(),
-            Kind::Bit => self.is_going_on(),
-            Kind::Number => self.is_going_on(),
-            Kind::Expression => self.is_going_on(),
-            Kind::Formula => self.is_going_on(),
-            Kind::Action => self.is_going_on(),
-            Kind::Event => self.is_going_on(),
-            Kind::Process => self.is_going_on(),
-            Kind::Goal => self.is_going_on(),
+            Kind::Head => self.tick.is_none(),
+            Kind::BitEffect | Kind::NumberEffect => self.is_going_on()
+                && matches!(self.owner, Some(Owner::Action | Owner::Event)),
+            Kind::Rate => self.is_going_on() && matches!(self.owner, Some(Owner::Process)),
+            _ => self.is_going_on(),
         }
     }
 
     fn has_room(&self, kind: Kind) -> bool
-        ensures { result ≡ has_room (seen self.now) kind }
+        ensures { result ≡ has_room self.now kind }
     {
-        let c = &self.contents;
+        let p = &self.parts;
         match kind {
-            Kind::Head => true,
-            Kind::Bit => c.bits.len() < MOST_BITS,
-            Kind::Number => c.numbers.len() < MOST_NUMBERS,
-            Kind::Expression => c.rows.expressions.len() < MOST_EXPRESSIONS,
-            Kind::Formula => c.rows.formulas.len() < MOST_FORMULAS,
-            Kind::Action => c.actions.len() < MOST_ACTIONS,
-            Kind::Event => c.events.len() < MOST_EVENTS,
-            Kind::Process => c.processes.len() < MOST_PROCESSES,
-            Kind::BitEffect => self.effects < MOST_EFFECTS,
-            Kind::NumberEffect => self.effects < MOST_EFFECTS,
+            Kind::Head | Kind::Goal => true,
+            Kind::Bit => p.bits.len() < MOST_BITS,
+            Kind::Number => p.numbers.len() < MOST_NUMBERS,
+            Kind::Expression => p.rows.expressions.len() < MOST_EXPRESSIONS,
+            Kind::Formula => p.rows.formulas.len() < MOST_FORMULAS,
+            Kind::Action => p.actions.len() < MOST_ACTIONS,
+            Kind::Event => p.events.len() < MOST_EVENTS,
+            Kind::Process => p.processes.len() < MOST_PROCESSES,
+            Kind::BitEffect | Kind::NumberEffect => self.effects < MOST_EFFECTS,
             Kind::Rate => self.rates < MOST_RATES,
-            Kind::Goal => true,
         }
     }
 
-    // The fault by which the record that comes next is refused.
+    /// The fault by which the record that comes next is refused.
     pub fn row_fault(&self, question: RowQuestion) -> Fault
-        ensures { result ≡ row_fault question (seen self.now) }
+        ensures { result ≡ row_fault question self.now }
     {
-        Fault::Row(RowFault {
+        Fault::Row(Refusal {
             question,
-            count: self.records() + 1,
+            place: self.records() + 1,
         })
     }
 
-    // What is asked of a record's kind alone, where the record begins at the byte `at`: may it stand here, and is its limit kept?
-    pub fn ask_kind(&self, kind: Kind, at: usize) -> Result<(), Fault>
-        ensures { fault result ≡ kind_refused (seen self.now) at kind }
+    /// Refuses the record that comes next by this question, unless the answer is yes.
+    pub(crate) fn ask(&self, yes: bool, question: RowQuestion) -> Result<(), Fault>
+        ensures { fault result ≡ ask yes (row_fault question self.now) None }
     {
-        if !self.may_stand(kind) {
-            return Err(Fault::Record(RecordFault {
-                question: RecordQuestion::Order,
-                at,
-            }));
+        if yes {
+            Ok(())
+        } else {
+            Err(self.row_fault(question))
         }
-        if !self.has_room(kind) {
-            return Err(self.row_fault(RowQuestion::Limit));
-        }
-        Ok(())
     }
 
-    // Whether a formula of this number stands.
-    fn has_formula(&self, formula: u16) -> bool
-        ensures { result ≡ nat_lt formula (length (problem_of self.now.contents).formulas) }
+    /// What is asked of a record's kind alone, where the record begins at the byte `at`: may it stand here, and is its limit kept?
+    pub fn ask_kind(&self, kind: Kind, at: usize) -> Result<(), Fault>
+        ensures { fault result ≡ kind_refused self.now at kind }
     {
-        (formula as usize) < self.contents.rows.formulas.len()
+        if !self.may_stand(kind) {
+            return Err(RecordQuestion::Order.at(at));
+        }
+        self.ask(self.has_room(kind), RowQuestion::Limit)
+    }
+
+    /// Whether a formula of this number stands.
+    fn has_formula(&self, formula: u16) -> bool
+        ensures { result ≡ nat_lt formula (length self.now.problem.formulas) }
+    {
+        usize::from(formula) < self.parts.rows.formulas.len()
     }
 
     fn rows_stand(&self, entry: Entry<'_>) -> bool
-        ensures { result ≡ rows_stand (seen self.now) (plain_entry entry.entry) }
+        ensures { result ≡ rows_stand self.now (plain_entry entry.entry) }
     {
         match entry {
-            Entry::Head(_) => true,
-            Entry::Bit(_) => true,
-            Entry::Number(_) => true,
-            Entry::Expression(e) => self.contents.rows.expression_stands(e),
-            Entry::Formula(f) => self.contents.rows.formula_stands(f),
-            Entry::Action { condition, name: _ } => self.has_formula(condition),
-            Entry::Event(condition) => self.has_formula(condition),
-            Entry::Process(condition) => self.has_formula(condition),
-            Entry::Effect(e) => self.contents.rows.effect_stands(e),
-            Entry::Rate(r) => self.contents.rows.rate_stands(r),
+            Entry::Head(_) | Entry::Bit(_) | Entry::Number(_) => true,
+            Entry::Expression(e) => self.parts.rows.expression_stands(e),
+            Entry::Formula(f) => self.parts.rows.formula_stands(f),
+            Entry::Action { condition, .. } | Entry::Event(condition) | Entry::Process(condition) =>
+                self.has_formula(condition),
+            Entry::Effect(e) => self.parts.rows.effect_stands(e),
+            Entry::Rate(r) => self.parts.rows.rate_stands(r),
             Entry::Goal(f) => self.has_formula(f),
         }
     }
 
     fn is_shallow(&self, entry: Entry<'_>) -> bool
-        ensures { result ≡ shallow (seen self.now) (plain_entry entry.entry) }
+        ensures { result ≡ shallow self.now (plain_entry entry.entry) }
     {
         match entry {
-            Entry::Head(_) => true,
-            Entry::Bit(_) => true,
-            Entry::Number(_) => true,
             Entry::Expression(e) => expression_depth(self.expression_depths.as_slice(), e)
                 <= DEEPEST,
             Entry::Formula(f) => formula_depth(self.formula_depths.as_slice(), f) <= DEEPEST,
-            Entry::Action {
-                condition: _,
-                name: _,
-            } => true,
-            Entry::Event(_) => true,
-            Entry::Process(_) => true,
-            Entry::Effect(_) => true,
-            Entry::Rate(_) => true,
-            Entry::Goal(_) => true,
+            _ => true,
         }
     }
 
     fn name_is_new(&self, entry: Entry<'_>) -> bool
-        ensures { result ≡ name_is_new (seen self.now) (plain_entry entry.entry) }
+        ensures { result ≡ name_is_new self.now (plain_entry entry.entry) }
     {
         match entry {
-            Entry::Head(_) => true,
-            Entry::Bit(_) => true,
-            Entry::Number(_) => true,
-            Entry::Expression(_) => true,
-            Entry::Formula(_) => true,
-            Entry::Action { condition: _, name } => is_new_name(
-                self.contents.actions.as_slice(),
-                name,
-            ),
-            Entry::Event(_) => true,
-            Entry::Process(_) => true,
-            Entry::Effect(_) => true,
-            Entry::Rate(_) => true,
-            Entry::Goal(_) => true,
+            Entry::Action { name, .. } => is_new_name(self.parts.actions.as_slice(), name),
+            _ => true,
         }
     }
 
-    // What is asked of what a record says: are its fields lawful, do the rows that it names stand, is it shallow, is its name new?
+    /// What is asked of what a record says: are its fields lawful, do the rows that it names stand, is it shallow, is its name new?
     pub(crate) fn ask_entry(&self, entry: Entry<'_>) -> Result<(), Fault>
-        ensures { fault result ≡ entry_refused (seen self.now) (plain_entry entry.entry) }
+        ensures { fault result ≡ entry_refused self.now (plain_entry entry.entry) }
     {
-        if !has_lawful_fields(entry) {
-            return Err(self.row_fault(RowQuestion::Fields));
-        }
-        if !self.rows_stand(entry) {
-            return Err(self.row_fault(RowQuestion::Rows));
-        }
-        if !self.is_shallow(entry) {
-            return Err(self.row_fault(RowQuestion::Depth));
-        }
-        if !self.name_is_new(entry) {
-            return Err(self.row_fault(RowQuestion::Name));
-        }
-        Ok(())
+        self.ask(has_lawful_fields(entry), RowQuestion::Fields)?;
+        self.ask(self.rows_stand(entry), RowQuestion::Rows)?;
+        self.ask(self.is_shallow(entry), RowQuestion::Depth)?;
+        self.ask(self.name_is_new(entry), RowQuestion::Name)
     }
 }

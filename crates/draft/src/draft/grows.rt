@@ -1,126 +1,61 @@
-// One row more in the contents of a draft; want of memory leaves them as they were.
-ghost use Rattle.std.specs.Prelude.{◌≡◌, ◌<◌, true, [], ◌∷◌, ◌++◌, is_ok, if◌then◌else◌, vec_len};
-ghost use Rattle.rows.specs.Lawful.{expression_stands, formula_stands};
-ghost use Rattle.table.specs.Seen.{problem_of};
-ghost use Rattle.draft.specs.Entered.{on_last, action_with, event_with, process_with, with_bits, with_numbers, with_expressions, with_formulas, with_actions, with_events, with_processes, with_effect};
-ghost use Rattle.draft.specs.Lawful.{owner_stands};
+//! One part more of a draft; want of memory leaves the parts as they were. Functions and no methods: `Parts` is another crate's type,
+//! and what they promise is said in this crate's words. The form of their clauses, what holds if `is_ok` and what holds otherwise, is the
+//! library's.
+ghost use Rattle.std.specs.Prelude.{◌≡◌, ◌<◌, [], ◌∷◌, ◌++◌, is_ok, if◌then◌else◌, vec_len};
+ghost use Rattle.table.specs.Seen.{parts_of};
+ghost use Rattle.draft.specs.Entered.{on_last, process_with, with_bits, with_numbers, with_processes, with_effect};
 
 use crate::entry::Owner;
-use rows::row::{Effect, Expression, Formula, Rate};
-use std::alloc::{AllocError, Global};
-use table::contents::{Action, Contents, Event, Process};
+use rows::row::{Effect, Rate};
+use std::alloc::AllocError;
+use table::contents::Parts;
 
-pub(crate) fn push_bit(c: &mut Contents, first: bool) -> Result<(), AllocError>
-    requires { vec_len c.old.bits < 64 }
-    ensures { problem_of c.new ≡ (if is_ok result then with_bits (c.old.bits.items ++ first ∷ []) (problem_of c.old) else problem_of c.old) }
+/// This and `push_number` differ in the vector and in the rows' method, which is all that each of them does; one function with both as
+/// parameters would be no shorter. In `enter` itself the two calls were tried: between them the counts differ, which the check refuses.
+pub(crate) fn push_bit(parts: &mut Parts, first: bool) -> Result<(), AllocError>
+    requires { vec_len parts.old.bits < 64 }
+    ensures { parts_of parts.new ≡ (if is_ok result then with_bits (parts.old.bits.items ++ first ∷ []) (parts_of parts.old) else parts_of parts.old) }
 {
-    c.bits.push(first)?;
-    c.rows.add_bit();
+    parts.bits.push(first)?;
+    parts.rows.add_bit();
     Ok(())
 }
 
-pub(crate) fn push_number(c: &mut Contents, first: i32) -> Result<(), AllocError>
-    requires { vec_len c.old.numbers < 32 }
-    ensures { problem_of c.new ≡ (if is_ok result then with_numbers (c.old.numbers.items ++ first ∷ []) (problem_of c.old) else problem_of c.old) }
+pub(crate) fn push_number(parts: &mut Parts, first: i32) -> Result<(), AllocError>
+    requires { vec_len parts.old.numbers < 32 }
+    ensures { parts_of parts.new ≡ (if is_ok result then with_numbers (parts.old.numbers.items ++ first ∷ []) (parts_of parts.old) else parts_of parts.old) }
 {
-    c.numbers.push(first)?;
-    c.rows.add_number();
+    parts.numbers.push(first)?;
+    parts.rows.add_number();
     Ok(())
 }
 
-pub(crate) fn push_expression(c: &mut Contents, expression: Expression) -> Result<(), AllocError>
-    requires { expression_stands c.old.rows.numbers (vec_len c.old.rows.expressions) expression ≡ true }
-    ensures { problem_of c.new ≡ (if is_ok result then with_expressions (c.old.rows.expressions.items ++ expression ∷ []) (problem_of c.old) else problem_of c.old) }
-{
-    c.rows.add_expression(expression)
-}
-
-pub(crate) fn push_formula(c: &mut Contents, formula: Formula) -> Result<(), AllocError>
-    requires { formula_stands c.old.rows.bits (vec_len c.old.rows.expressions) (vec_len c.old.rows.formulas) formula ≡ true }
-    ensures { problem_of c.new ≡ (if is_ok result then with_formulas (c.old.rows.formulas.items ++ formula ∷ []) (problem_of c.old) else problem_of c.old) }
-{
-    c.rows.add_formula(formula)
-}
-
-pub(crate) fn push_action(
-    c: &mut Contents,
-    heap: Global,
-    condition: u16,
-    name: &[u8],
-) -> Result<(), AllocError>
-    ensures { problem_of c.new ≡ (if is_ok result then with_actions ((problem_of c.old).actions ++ record { name = name.entry.now; condition = condition; effects = [] } ∷ []) (problem_of c.old) else problem_of c.old) }
-{
-    let name = Vec::from_slice(heap, name)?;
-    c.actions.push(Action {
-        name,
-        condition,
-        effects: Vec::new(heap),
-    })?;
-    Ok(())
-}
-
-pub(crate) fn push_event(c: &mut Contents, heap: Global, condition: u16) -> Result<(), AllocError>
-    ensures { problem_of c.new ≡ (if is_ok result then with_events ((problem_of c.old).events ++ record { condition = condition; effects = [] } ∷ []) (problem_of c.old) else problem_of c.old) }
-{
-    c.events.push(Event {
-        condition,
-        effects: Vec::new(heap),
-    })?;
-    Ok(())
-}
-
-pub(crate) fn push_process(c: &mut Contents, heap: Global, condition: u16) -> Result<(), AllocError>
-    ensures { problem_of c.new ≡ (if is_ok result then with_processes ((problem_of c.old).processes ++ record { condition = condition; rates = [] } ∷ []) (problem_of c.old) else problem_of c.old) }
-{
-    c.processes.push(Process {
-        condition,
-        rates: Vec::new(heap),
-    })?;
-    Ok(())
-}
-
-fn push_action_effect(c: &mut Contents, effect: Effect) -> Result<(), AllocError>
-    requires { 0 < vec_len c.old.actions }
-    ensures { problem_of c.new ≡ (if is_ok result then with_actions (on_last (action_with effect) (problem_of c.old).actions) (problem_of c.old) else problem_of c.old) }
-{
-    let last = c.actions.len() - 1;
-    c.actions[last].effects.push(effect)?;
-    Ok(())
-}
-
-fn push_event_effect(c: &mut Contents, effect: Effect) -> Result<(), AllocError>
-    requires { 0 < vec_len c.old.events }
-    ensures { problem_of c.new ≡ (if is_ok result then with_events (on_last (event_with effect) (problem_of c.old).events) (problem_of c.old) else problem_of c.old) }
-{
-    let last = c.events.len() - 1;
-    c.events[last].effects.push(effect)?;
-    Ok(())
-}
-
-// An effect goes to the last owner; a process, or no owner, takes none.
+/// An effect goes to the last owner; a process, or no owner, takes none.
 pub(crate) fn push_effect(
-    c: &mut Contents,
+    parts: &mut Parts,
     owner: Option<Owner>,
     effect: Effect,
 ) -> Result<(), AllocError>
-    requires { owner_stands owner (problem_of c.old) ≡ true }
-    ensures { problem_of c.new ≡ (if is_ok result then with_effect owner effect (problem_of c.old) else problem_of c.old) }
+    ensures { parts_of parts.new ≡ (if is_ok result then with_effect owner effect (parts_of parts.old) else parts_of parts.old) }
 {
-    let Some(last) = owner else {
-        return Ok(());
-    };
-    match last {
-        Owner::Action => push_action_effect(c, effect),
-        Owner::Event => push_event_effect(c, effect),
-        Owner::Process => Ok(()),
+    match owner {
+        Some(Owner::Action) => if let Some(action) = parts.actions.last_mut() {
+            action.body.push(effect)?;
+        },
+        Some(Owner::Event) => if let Some(event) = parts.events.last_mut() {
+            event.push(effect)?;
+        },
+        Some(Owner::Process) | None => {}
     }
+    Ok(())
 }
 
-pub(crate) fn push_rate(c: &mut Contents, rate: Rate) -> Result<(), AllocError>
-    requires { 0 < vec_len c.old.processes }
-    ensures { problem_of c.new ≡ (if is_ok result then with_processes (on_last (process_with rate) (problem_of c.old).processes) (problem_of c.old) else problem_of c.old) }
+/// A rate goes to the last process.
+pub(crate) fn push_rate(parts: &mut Parts, rate: Rate) -> Result<(), AllocError>
+    ensures { parts_of parts.new ≡ (if is_ok result then with_processes (on_last (process_with rate) (parts_of parts.old).processes) (parts_of parts.old) else parts_of parts.old) }
 {
-    let last = c.processes.len() - 1;
-    c.processes[last].rates.push(rate)?;
+    if let Some(process) = parts.processes.last_mut() {
+        process.push(rate)?;
+    }
     Ok(())
 }

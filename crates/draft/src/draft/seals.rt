@@ -1,72 +1,66 @@
-// A draft begins blank, and is moved into a table once its goal has come.
+//! A draft begins blank, and is moved into a table once its goal has come.
 ghost use Rattle.std.specs.Prelude.{◌≡◌, Some, None, MatchResult};
-ghost use Rattle.table.specs.Sealed.{problem};
 ghost use Rattle.table.specs.Lawful.{Lawful};
 ghost use Rattle.draft.specs.Draft.{blank, sealed};
 ghost use Rattle.draft.specs.Questions.{seal_refused};
+ghost use Rattle.draft.specs.Lawful.{LawfulDraft};
 ghost use Rattle.draft.specs.Outcome.{fault};
-ghost use Rattle.draft.specs.Seen.{seen};
 
 use crate::draft::Draft;
 use faults::{Fault, RowQuestion};
 use std::alloc::Global;
-use table::contents::Contents;
+use table::contents::{Contents, Parts};
 use table::sealed::Table;
 
 impl Draft {
-    // A draft that has taken no record.
+    /// A draft that has taken no record.
     pub fn blank(heap: Global) -> Draft
-        ensures { seen result ≡ blank }
+        ensures { result ≡ blank }
     {
         Draft {
-            heap,
-            contents: Contents::new(heap),
+            tick: None,
+            parts: Parts::new(heap),
+            goal: None,
+            owner: None,
             expression_depths: Vec::new(heap),
             formula_depths: Vec::new(heap),
             effects: 0,
             rates: 0,
-            owner: None,
-            begun: false,
-            ended: false,
         }
     }
 
-    // Discards all that the draft holds.
+    /// Discards all that the draft holds.
     pub fn clear(&mut self)
-        ensures { seen self.new ≡ blank }
+        ensures { self.new ≡ blank }
     {
-        *self = Draft::blank(self.heap);
+        *self = Draft::blank(*self.parts.bits.allocator());
     }
 
-    // Has the goal come? It moves and changes nothing.
+    /// Has the goal come? It moves and changes nothing, and tells that what the draft holds is lawful so far, as it always is.
     pub fn ask_seal(&self) -> Result<(), Fault>
-        ensures { fault result ≡ seal_refused (seen self.now) }
+        ensures answer { fault result ≡ seal_refused self.now }
+        ensures lawful { LawfulDraft self.now }
     {
-        if self.ended {
-            Ok(())
-        } else {
-            Err(self.row_fault(RowQuestion::Goal))
-        }
+        self.ask(self.goal.is_some(), RowQuestion::Goal)
     }
 
-    // The table of a draft whose goal has come; any other draft is handed back as it was.
+    /// The table of a draft whose goal has come; any other draft is handed back as it was.
     pub fn seal(self) -> Result<Table, Draft>
-        ensures { MatchResult result (λ t. (sealed (seen self) ≡ Some (problem t)) × Lawful (problem t)) (λ d. (sealed (seen self) ≡ None) × (d ≡ self)) }
+        ensures { MatchResult result (λ t. (sealed self ≡ Some t) × Lawful t) (λ d. (sealed self ≡ None) × (d ≡ self)) }
     {
-        if !self.ended {
+        let (Some(tick), Some(goal)) = (self.tick, self.goal) else {
             return Err(self);
-        }
+        };
         let Draft {
-            heap: _,
-            contents,
+            tick: _,
+            parts,
+            goal: _,
+            owner: _,
             expression_depths: _,
             formula_depths: _,
             effects: _,
             rates: _,
-            owner: _,
-            begun: _,
-            ended: _,
         } = self;
-        Ok(Table::new(contents))
+        Ok(Table::new(Contents { tick, parts, goal }))
     }
 }

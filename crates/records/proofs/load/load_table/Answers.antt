@@ -1,6 +1,5 @@
-use Rattle.draft.specs.Seen.{seen}
-use Rattle.records.proofs.Taken.{never_unsealed}
+use Rattle.records.proofs.Taken.{never_unsealed, surely_ok}
 use Rattle.records.proofs.load.load_table.Goals as goal
 
-pub unreachable-requires : goal.unreachable-requires
-unreachable-requires c = never_unsealed _ (seen c.load.new.draft) c.in_ok-load.ensures c.in-Err.ensures.0
+pub unwrap-requires : goal.unwrap-requires
+unwrap-requires c = surely_ok _ _ c.seal.result c.seal.ensures (λ _ q. never_unsealed _ c.load.new.draft c.in_ok-load.ensures q.0)

@@ -1,5 +1,4 @@
 use Rattle.std.proofs.Common.{◌≡◌, ◌≤◌, length}
-use Rattle.draft.specs.Seen.{seen}
 use Rattle.records.specs.Loaded.{all_taken}
 use Rattle.records.proofs.load.take_all.Given as goal
 
@@ -7,7 +6,7 @@ use Rattle.records.proofs.load.take_all.Given as goal
 abbrev pub invariant-loop-left : goal.invariant-loop-left
 invariant-loop-left l =
     (length l.left ≤ length l.bytes)
-    × (all_taken (length l.left) (length l.bytes) (seen l.draft) l.left ≡ all_taken (length l.bytes) (length l.bytes) (seen l.initial.draft) l.bytes)
+    × (all_taken (length l.left) (length l.bytes) l.draft l.left ≡ all_taken (length l.bytes) (length l.bytes) l.initial.draft l.bytes)
 
 abbrev pub decreases-loop-left : goal.decreases-loop-left
 decreases-loop-left l = length l.left

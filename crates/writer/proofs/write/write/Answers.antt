@@ -1,7 +1,7 @@
-use Rattle.std.proofs.Common.{◌≡◌, ℕ, List, ◌++◌, vec_items, ap, ◌∙◌}
+use Rattle.std.proofs.Common.{◌≡◌, ℕ, List, ◌++◌, vec_items, ap, ◌∙◌, subst}
 use Rattle.std.proofs.lemmas.Result.{IfOk-from_err}
+use Rattle.table.specs.Lawful.{Lawful}
 use Rattle.table.specs.Seen.{problem_of}
-use Rattle.table.specs.Sealed.{problem}
 use Rattle.records.specs.Loaded.{problem_loaded}
 use Rattle.writer.specs.Written.{written}
 use Rattle.writer.proofs.Loads as loads
@@ -18,8 +18,8 @@ returns-in_err-put c =
 
 pub returns : goal.returns
 returns c =
-    let t = c.args.table.now in
-    let e : vec_items c.put.new.out ≡ written (problem t) =
+    let p = c.args.table.now in
+    let e : vec_items c.put.new.out ≡ written p =
     c.in_ok-put.ensures ∙ ap (λ (l : List ℕ). l ++ written (problem_of c.contents.result.now)) c.new-out.ensures.items
     ∙ ap written c.contents.ensures.value in
-    record { bytes = e; loads_back = ap problem_loaded e ∙ loads.loads_back (problem t) t.lawful; law = loads.loads_back }
+    record { bytes = e; loads_back = ap problem_loaded e ∙ loads.loads_back p (subst Lawful c.contents.ensures.value c.contents.ensures.lawful); law = loads.loads_back }

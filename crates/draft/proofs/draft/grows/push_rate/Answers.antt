@@ -1,22 +1,23 @@
-use Rattle.std.proofs.Common.{◌<◌, true, false, vec_items, sym, ap, ◌∙◌, subst}
+use Rattle.std.proofs.Common.{ℕ, List, true, false, vec_items, vec_len, refl, ap, ap₂}
 use Rattle.std.proofs.lemmas.Result.{err_from_is_err_and}
-use Rattle.table.specs.Seen.{process_of, problem_of}
+use Rattle.rows.specs.declared.row.Rate.{Rate}
+use Rattle.table.specs.Seen.{process_of, parts_of}
 use Rattle.draft.specs.Entered.{process_with, with_processes}
 use Rattle.draft.proofs.Last.{last_changed}
 use Rattle.draft.proofs.draft.grows.push_rate.Goals as goal
 
 pub returns-in_err-push : goal.returns-in_err-push
 returns-in_err-push c =
-    let v = c.args.c.now.processes in
+    let v = c.args.parts.now.processes in
     let p = err_from_is_err_and c.from_residual.result c.from_residual.ensures.1 in
     rw p.1
-    (ap (λ l. with_processes l (problem_of c.args.c.now))
-    (last_changed process_of (process_with c.args.rate) (vec_items v) c.len-last.result c.index_mut.result.now _ (c.len-last.ensures ∙ v.ok.0) (subst (λ n. 0 < n) (sym c.len-last.ensures) c.requires) c.index_mut.ensures.value false
-    (ap (λ l. record { condition = c.index_mut.result.now.condition; rates = l }) c.in_err-push.ensures.items)))
+    (ap (λ l. with_processes l (parts_of c.args.parts.now))
+    (last_changed process_of (process_with c.args.rate) (vec_items v) (vec_len v) c.in-Some.process.now c.push.new.self v.ok.0 (c.in-Some.ensures.variant.0 refl) c.in-Some.ensures.value false
+    (ap₂ (λ (n : ℕ) (l : List Rate). record { condition = n; rates = l }) c.in_err-push.ensures.condition c.in_err-push.ensures.parts)))
 
-pub returns : goal.returns
-returns c =
-    let v = c.args.c.now.processes in
-    ap (λ l. with_processes l (problem_of c.args.c.now))
-    (last_changed process_of (process_with c.args.rate) (vec_items v) c.len-last.result c.index_mut.result.now _ (c.len-last.ensures ∙ v.ok.0) (subst (λ n. 0 < n) (sym c.len-last.ensures) c.requires) c.index_mut.ensures.value true
-    (ap (λ l. record { condition = c.index_mut.result.now.condition; rates = l }) c.in_ok-push.ensures.items))
+pub returns-in_ok-push : goal.returns-in_ok-push
+returns-in_ok-push c =
+    let v = c.args.parts.now.processes in
+    ap (λ l. with_processes l (parts_of c.args.parts.now))
+    (last_changed process_of (process_with c.args.rate) (vec_items v) (vec_len v) c.in-Some.process.now c.push.new.self v.ok.0 (c.in-Some.ensures.variant.0 refl) c.in-Some.ensures.value true
+    (ap₂ (λ (n : ℕ) (l : List Rate). record { condition = n; rates = l }) c.in_ok-push.ensures.condition c.in_ok-push.ensures.parts))

@@ -1,12 +1,7 @@
-use Rattle.std.proofs.Common.{◌≡◌, ◌++◌, vec_items}
-use Rattle.draft.specs.Entry.{event, effect}
+use Rattle.draft.specs.Entry.{effect}
 use Rattle.writer.specs.Written.{encoded}
-use Rattle.writer.proofs.Pieces.{owner_put}
+use Rattle.std.proofs.lemmas.List.Folds.{flat_map-map}
 use Rattle.writer.proofs.parts.EventPut.put.Goals as goal
 
 pub returns : goal.returns
-returns c =
-    let s = c.args.self.now in
-    let old = vec_items c.args.out.now in
-    let a : vec_items c.put_record.new.out ≡ old ++ encoded (event s.condition) = c.in_ok-put_record.ensures in
-    owner_put encoded effect (event s.condition) (vec_items s.effects) c.as_slice.result.now old a c.in_ok-put_all.ensures c.as_slice.ensures.value
+returns c = rw (flat_map-map encoded effect _) c.put_owner.ensures
