@@ -44,7 +44,8 @@ pub struct Refusal<Q> {
     pub place: usize,
 }
 
-/// Number, layer and place are told by a method each, which stand in the interface for who asks for one alone.
+/// Number, layer and place have a method each, as docs/REFUSALS.md gives a fault these three; one method would return the same three,
+/// for each caller to take apart.
 ///
 /// A record is refused as bytes at the offset of its first byte, and as a row at its count among the records, from 1.
 /// Want of memory is a case of its own, with no number, layer or place.
@@ -113,9 +114,10 @@ impl Fault {
     pub fn refused(&self) -> Result<(u16, usize), AllocError>
         ensures { result ≡ refused self.now }
     {
-        let (Some(number), Some(place)) = (self.number(), self.place()) else {
-            return Err(AllocError);
-        };
-        Ok((number, place))
+        match self {
+            Fault::Record(refusal) => Ok((refusal.question as u16, refusal.place)),
+            Fault::Row(refusal) => Ok((refusal.question as u16, refusal.place)),
+            Fault::Memory => Err(AllocError),
+        }
     }
 }

@@ -31,7 +31,8 @@ fn print_refusal(rt: &HostRuntime, fault: Fault) -> anyhow::Result<()> {
     Ok(())
 }
 
-/// The name of the file stands before its error in one text; `context` would print that text otherwise where it is long.
+/// The file's name stands before its error. `map_err` would be no plainer than the `match`: `format!` may itself fail, so that its closure
+/// would need a `?` of its own.
 fn run(rt: &HostRuntime) -> anyhow::Result<()> {
     let bytes = match problem_bytes(rt) {
         Ok(bytes) => bytes,

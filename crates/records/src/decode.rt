@@ -47,7 +47,8 @@ fn value(body: &[u8], at: usize) -> i32
     i32::from_le_bytes([body[at], body[at + 1], body[at + 2], body[at + 3]])
 }
 
-/// A function, since no `TryFrom` can be given here to two types of the library's.
+/// A function: `TryFrom` cannot be given here to two types of the library's, and a type of our own for a flag would be taken apart at
+/// once.
 fn flag(n: u16) -> Option<bool>
     ensures { result ≡ flag n }
 {

@@ -9,8 +9,8 @@ pub mod asks;
 
 /// The fields are there for all to read, so contracts name them and there is no model; `plain` is what grows.
 ///
-/// How many bits and numbers there are is a count: rows ask only whether what they name is below it, and the first values are no rows.
-/// With these in place of the counts, `add_bit` and `add_number`, which cannot fail, could.
+/// How many bits and numbers there are is a count: rows ask only whether what they name is below it. A vector of first values in its place
+/// would be no plainer: its length alone would be read here, and `add_bit` and `add_number` would need memory.
 #[derive(Debug, Drop)]
 pub struct Rows {
     pub bits: usize,

@@ -68,6 +68,7 @@ impl Put for Formula {
     }
 }
 
+/// Numbers of ways, likewise.
 impl Put for Effect {
     ghost bytes = { effect_bytes };
 
@@ -93,6 +94,7 @@ impl Put for Rate {
     }
 }
 
+/// This and the two below differ in the kind and are one line each; a trait that tells the kind would take as many impls.
 impl Put for Action {
     ghost bytes = { action_bytes };
 

@@ -1,5 +1,6 @@
-//! Bytes behind bytes: fields, records, and whatever is written as records. The vector is lent, as the standard library's writers are, and `OnOk` with
-//! what stands behind what is the library's way to say what was written. Where memory is wanting nothing is said of the bytes.
+//! Bytes behind bytes: fields, records, and whatever is written as records. A definition for what a clause says of
+//! the lent vector would need it before and after, the result and the bytes, as the clause does; a type round the vector would only hand
+//! on to it. Where memory is wanting nothing is said of the bytes.
 ghost use Rattle.std.specs.Prelude.{◌≡◌, ℕ, List, [], ◌∷◌, ◌++◌, OnOk};
 ghost use Rattle.std.specs.List.{flat_map};
 ghost use Rattle.records.specs.Bytes.{pair_bytes};

@@ -1,6 +1,6 @@
 //! One part more of a draft; want of memory leaves the parts as they were. Functions and no methods: `Parts` is another crate's type,
-//! and what they promise is said in this crate's words. The form of their clauses, what holds if `is_ok` and what holds otherwise, is the
-//! library's.
+//! and what they promise is said in this crate's words. Each clause says what holds after
+//! `Ok` and what after `Err`; a definition would take both as parameters and be no shorter.
 ghost use Rattle.std.specs.Prelude.{◌≡◌, ◌<◌, [], ◌∷◌, ◌++◌, is_ok, if◌then◌else◌, vec_len};
 ghost use Rattle.table.specs.Seen.{parts_of};
 ghost use Rattle.draft.specs.Entered.{on_last, process_with, with_bits, with_numbers, with_processes, with_effect};

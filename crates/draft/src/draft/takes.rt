@@ -17,8 +17,8 @@ use table::contents::{Action, Conditional};
 impl Draft {
     /// Takes what an entry that passes says; want of memory leaves the draft as it was.
     ///
-    /// The arms of an expression and a formula differ in the two fields that they name: a function of both would take these as
-    /// parameters and be no shorter. A depth is at most 12 here, so `as` loses nothing, as the check proves; `u8::try_from` would need
+    /// Arms that are alike, as those of an expression and a formula or of an event and a process, differ in the fields that they name: a
+    /// function of both would take these as parameters and be no shorter. The clause says what holds after `Ok` and what after `Err`. A depth is at most 12 here, so `as` loses nothing, as the check proves; `u8::try_from` would need
     /// the same proof for its `unwrap`.
     fn enter(&mut self, entry: Entry<'_>) -> Result<(), AllocError>
         requires { Passes self.old (plain_entry entry) }
