@@ -18,9 +18,9 @@ use Rattle.rows.proofs.More.{Within, expressions_more, formulas_more, expression
 use Rattle.table.specs.Problem.{Action, Event, Process, Problem}
 use Rattle.table.specs.Depth.{shallow_expression, shallow_formula}
 use Rattle.table.specs.Lawful.{effects_of, rates_of, counts_of, lawful_tick, action_stands, event_stands, process_stands}
-use Rattle.draft.specs.Entry.{Entry, head, bit, number, expression, formula, action, event, process, effect, rate, goal, kind, change_kind}
+use Rattle.draft.specs.Entry.{Entry, head, bit, number, expression, formula, action, event, process, effect, rate, goal, change_kind}
 use Rattle.draft.specs.Draft.{Draft}
-use Rattle.draft.specs.Questions.{may_stand, has_room, lawful_fields, rows_stand, shallow, name_is_new, takes_effects, takes_rates, going_on}
+use Rattle.draft.specs.Questions.{Passes, may_stand, has_room, takes_effects, takes_rates, going_on}
 use Rattle.draft.specs.Entered.{entered, with_effect, action_with, event_with, process_with}
 use Rattle.draft.specs.Lawful.{owner_stands, LawfulDraft}
 use Rattle.draft.specs.declared.entry.Owner.{Owner}
@@ -28,15 +28,6 @@ use Rattle.draft.specs.declared.entry.Owner.TheVariants as owners
 use Rattle.draft.proofs.Grown.{all_push, all_weaker, all_on_last, each_on_last, length_on_last}
 use Rattle.draft.proofs.Grown.{action_more, event_more, process_more, action_push, event_push, process_push}
 use Rattle.draft.proofs.Counted.{effects_with, rates_entered, effects_action, effects_event, rates_process}
-
--- each question about the record e is answered by yes
-pub record Passes (d : Draft) (e : Entry) : Type 0 where
-  pub stands : may_stand d (kind e) ≡ true
-  pub room : has_room d (kind e) ≡ true
-  pub fields : lawful_fields e ≡ true
-  pub rows : rows_stand d e ≡ true
-  pub shallow : shallow d e ≡ true
-  pub new : name_is_new d e ≡ true
 
 -- owners stand where there is more to name
 owners_more : (c d : Counts) (actions : List Action) (events : List Event) (processes : List Process) → Within c d

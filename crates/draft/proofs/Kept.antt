@@ -10,9 +10,9 @@ use Rattle.rows.specs.declared.row.Rate.{Rate}
 use Rattle.table.specs.Problem.{Problem}
 use Rattle.table.specs.Depth.{depths_of_expressions, depths_of_formulas, expression_depth, formula_depth}
 use Rattle.table.specs.Lawful.{rates_of}
-use Rattle.draft.specs.Entry.{Entry, bit, number, expression, formula, action, event, process, effect, rate}
+use Rattle.draft.specs.Entry.{kind, Entry, bit, number, expression, formula, action, event, process, effect, rate}
 use Rattle.draft.specs.Draft.{Draft}
-use Rattle.draft.specs.Questions.{ask, row_fault, Passes, lawful_fields, rows_stand, shallow, name_is_new, going_on, takes_effects, takes_rates}
+use Rattle.draft.specs.Questions.{may_stand, has_room, entry_refused, ask, row_fault, Passes, lawful_fields, rows_stand, shallow, name_is_new, going_on, takes_effects, takes_rates}
 use Rattle.draft.specs.Entered.{entered, with_tick, with_goal, with_effect}
 use Rattle.draft.specs.Lawful.{LawfulDraft}
 use Rattle.draft.specs.Kept.{Keeps}
@@ -27,16 +27,17 @@ pub ask_passed : (b : Bool) (f : Fault) (rest : Option Fault) → ask b f rest �
 ask_passed true f rest h = (refl, h)
 ask_passed false f rest h = cc
 
-pub passes : (d : Draft) (e : Entry) → Passes d e → entering.Passes d e
-passes d e h =
-    let a = ask_passed (lawful_fields e) (row_fault Fields d) _ h.2 in
+-- what the questions leave unrefused, one after another, is answered by yes
+pub passes : (d : Draft) (e : Entry) → may_stand d (kind e) ≡ true → has_room d (kind e) ≡ true → entry_refused d e ≡ None → Passes d e
+passes d e stands room none =
+    let a = ask_passed (lawful_fields e) (row_fault Fields d) _ none in
     let b = ask_passed (rows_stand d e) (row_fault Rows d) _ a.1 in
     let c = ask_passed (shallow d e) (row_fault Depth d) _ b.1 in
     let n = ask_passed (name_is_new d e) (row_fault Name d) _ c.1 in
-    record { stands = h.0; room = h.1; fields = a.0; rows = b.0; shallow = c.0; new = n.0 }
+    record { stands = stands; room = room; fields = a.0; rows = b.0; shallow = c.0; new = n.0 }
 
 lawful_next : (d : Draft) (e : Entry) → LawfulDraft d → Passes d e → LawfulDraft (entered d e)
-lawful_next d e l h = entering.lawful_entered d e l (passes d e h)
+lawful_next d e l h = entering.lawful_entered d e l h
 
 -- an effect leaves expressions, formulas and rates alone
 effect_expressions : (o : Option Owner) (e : Effect) (p : Problem) → (with_effect o e p).expressions ≡ p.expressions
@@ -125,7 +126,7 @@ module _ (d : Draft) (es fs : List ℕ) (n m : ℕ) (k : Keeps d es fs n m) wher
   keeps_effect e h =
       let o = d.owner in
       let p = d.problem in
-      let t = (and_parts (going_on d) (takes_effects o) (sym (entering.effect_may_stand d e.change) ∙ h.0)).1 in
+      let t = (and_parts (going_on d) (takes_effects o) (sym (entering.effect_may_stand d e.change) ∙ h.stands)).1 in
       record {
         lawful = lawful_next d (effect e) k.lawful h;
         expressions_measured = k.expressions_measured ∙ ap depths_of_expressions (sym (effect_expressions o e p));
@@ -136,7 +137,7 @@ module _ (d : Draft) (es fs : List ℕ) (n m : ℕ) (k : Keeps d es fs n m) wher
 
   pub keeps_rate : (r : Rate) → Passes d (rate r) → Keeps (entered d (rate r)) es fs n (m + 1)
   keeps_rate r h =
-      let t = (and_parts (going_on d) (takes_rates d.owner) h.0).1 in
+      let t = (and_parts (going_on d) (takes_rates d.owner) h.stands).1 in
       record {
         lawful = lawful_next d (rate r) k.lawful h;
         expressions_measured = k.expressions_measured;

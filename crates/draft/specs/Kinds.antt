@@ -1,5 +1,6 @@
 -- The kinds of records by their codes.
-use Rattle.std.specs.Prelude.{ℕ, cond, Some, None, Ok, Err, Option, Result, ◌==◌}
+use Rattle.std.specs.Prelude.{ℕ, cond, Some, None, Option, Result, ◌==◌}
+use Rattle.std.specs.Option.{ok_or}
 use Rattle.draft.specs.declared.entry.Kind.{Kind}
 use Rattle.draft.specs.declared.entry.UnknownKind.{UnknownKind}
 use Rattle.draft.specs.declared.entry.Kind.TheVariants.{Head, Bit, Number, Expression, Formula, Action, Event, Process, BitEffect, NumberEffect, Rate, Goal}
@@ -34,10 +35,6 @@ coded n =
     (cond (n == 11) (Some Rate)
     (cond (n == 12) (Some Goal) None)))))))))))
 
--- the kind, or the number n that is the code of none
-abbrev pub known : ℕ → Option Kind → Result Kind UnknownKind
-known n (Some k) = Ok k
-known n None = Err (record { 0 = n })
-
+-- the kind with this code, or the number n that is the code of none
 abbrev pub kind_coded : ℕ → Result Kind UnknownKind
-kind_coded n = known n (coded n)
+kind_coded n = ok_or (coded n) (record { 0 = n })

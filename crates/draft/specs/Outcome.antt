@@ -1,12 +1,12 @@
 -- What a call that takes a record answers, and what it leaves.
 use Rattle.std.specs.Prelude.{◌≡◌, true, is_ok, Some, None, Ok, Err, Option, Result}
+use Rattle.std.specs.Result.{result_err}
 use Rattle.faults.specs.declared.Fault.{Fault}
 use Rattle.faults.specs.declared.Fault.TheVariants.{Record, Row, Memory}
 
 -- the fault of an answer, if there is one
 abbrev pub fault : {X : Type 0} → Result X Fault → Option Fault
-fault (Ok x) = None
-fault (Err f) = Some f
+fault o = result_err o
 
 -- refused by f, or accepted with x
 abbrev pub refused_or : {X : Type 0} → Option Fault → X → Result X Fault

@@ -2,8 +2,7 @@
 use Rattle.std.specs.Prelude.{◌≡◌, ℕ, ◌+◌, Bool, true, false, not, ◌&&◌, length, Some, None, Option, nat_lt}
 use Rattle.faults.specs.Faults.{record_fault}
 use Rattle.faults.specs.declared.Fault.{Fault}
-use Rattle.faults.specs.declared.Fault.TheVariants.{Record, Row}
-use Rattle.faults.specs.declared.RecordQuestion.{RecordQuestion}
+use Rattle.faults.specs.declared.Fault.TheVariants.{Row}
 use Rattle.faults.specs.declared.RecordQuestion.TheVariants.{Order}
 use Rattle.faults.specs.declared.RowQuestion.{RowQuestion}
 use Rattle.faults.specs.declared.RowQuestion.TheVariants.{Limit, Fields, Rows, Depth, Name, Goal}
@@ -151,8 +150,13 @@ entry_refused d e =
     (ask (rows_stand d e) (row_fault Rows d) (ask (shallow d e) (row_fault Depth d) (ask (name_is_new d e) (row_fault Name d) None)))
 
 -- all that is asked of a record is answered by yes
-abbrev pub Passes : Draft → Entry → Type 0
-Passes d e = (may_stand d (kind e) ≡ true) × (has_room d (kind e) ≡ true) × (entry_refused d e ≡ None)
+pub record Passes (d : Draft) (e : Entry) : Type 0 where
+  pub stands : may_stand d (kind e) ≡ true
+  pub room : has_room d (kind e) ≡ true
+  pub fields : lawful_fields e ≡ true
+  pub rows : rows_stand d e ≡ true
+  pub shallow : shallow d e ≡ true
+  pub new : name_is_new d e ≡ true
 
 -- what is asked at the end: has the goal come? What is missing counts as the next record.
 abbrev pub seal_refused : Draft → Option Fault

@@ -10,8 +10,8 @@ pub mod takes;
 
 /// The head brings the tick length, and the goal comes last.
 ///
-/// The depth of each row stands beside the rows and not in them: a sealed table needs none, so a vector of rows with depths would have
-/// to be copied into one of rows by `seal`, which would be no plainer, and which cannot fail and then could. How many effects and rates there are over all
+/// The depth of each row stands beside the rows and not in them: a sealed table needs none, and rows with depths would be no plainer, as
+/// `seal` would have to copy them out of their vector, and so could fail for want of memory, which it cannot now. How many effects and rates there are over all
 /// owners is kept, which is plainer than three sums of lengths with a proof that they fit.
 #[derive(Debug, Drop)]
 pub struct Draft {

@@ -114,10 +114,6 @@ impl Fault {
     pub fn refused(&self) -> Result<(u16, usize), AllocError>
         ensures { result ≡ refused self.now }
     {
-        match self {
-            Fault::Record(refusal) => Ok((refusal.question as u16, refusal.place)),
-            Fault::Row(refusal) => Ok((refusal.question as u16, refusal.place)),
-            Fault::Memory => Err(AllocError),
-        }
+        self.number().zip(self.place()).ok_or(AllocError)
     }
 }

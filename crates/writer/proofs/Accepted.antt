@@ -8,7 +8,7 @@ use Rattle.draft.specs.Entry.{Entry}
 use Rattle.draft.specs.Draft.{Draft}
 use Rattle.draft.specs.Entered.{entered}
 use Rattle.draft.specs.declared.entry.Owner.{Owner}
-use Rattle.draft.proofs.Entered.{Passes}
+use Rattle.draft.specs.Questions.{Passes}
 use Rattle.writer.proofs.Places.{Place}
 
 -- the draft d accepts these entries one after another, and is d' then

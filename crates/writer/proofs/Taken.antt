@@ -6,7 +6,8 @@ use Rattle.draft.specs.Entry.{Entry, kind}
 use Rattle.draft.specs.Draft.{Draft}
 use Rattle.draft.specs.Entered.{entered}
 use Rattle.draft.specs.Lawful.{LawfulDraft}
-use Rattle.draft.proofs.Entered.{Passes, lawful_entered}
+use Rattle.draft.specs.Questions.{Passes}
+use Rattle.draft.proofs.Entered.{lawful_entered}
 use Rattle.draft.specs.Kinds.{code}
 use Rattle.records.specs.Loaded.{with_record, onward, taken, all_taken}
 use Rattle.writer.specs.Written.{encoded}

@@ -1,6 +1,7 @@
-//! Bytes behind bytes: fields, records, and whatever is written as records. A definition for what a clause says of
-//! the lent vector would need it before and after, the result and the bytes, as the clause does; a type round the vector would only hand
-//! on to it. Where memory is wanting nothing is said of the bytes.
+//! Bytes behind bytes: fields, records, and whatever is written as records. Where memory is wanting nothing is said of the bytes.
+//!
+//! A definition for what a clause says of the lent vector would need it before and after, the result and the bytes, as the clause does;
+//! a type round the vector would only hand on to it.
 ghost use Rattle.std.specs.Prelude.{◌≡◌, ℕ, List, [], ◌∷◌, ◌++◌, OnOk};
 ghost use Rattle.std.specs.List.{flat_map};
 ghost use Rattle.records.specs.Bytes.{pair_bytes};

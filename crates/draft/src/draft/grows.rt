@@ -1,6 +1,6 @@
 //! One part more of a draft; want of memory leaves the parts as they were. Functions and no methods: `Parts` is another crate's type,
-//! and what they promise is said in this crate's words. Each clause says what holds after
-//! `Ok` and what after `Err`; a definition would take both as parameters and be no shorter.
+//! and what they promise is said in this crate's words. Each clause says what holds after `Ok` and what after `Err`; a definition would
+//! take both as parameters and be no shorter.
 ghost use Rattle.std.specs.Prelude.{◌≡◌, ◌<◌, [], ◌∷◌, ◌++◌, is_ok, if◌then◌else◌, vec_len};
 ghost use Rattle.table.specs.Seen.{parts_of};
 ghost use Rattle.draft.specs.Entered.{on_last, process_with, with_bits, with_numbers, with_processes, with_effect};
@@ -11,7 +11,7 @@ use std::alloc::AllocError;
 use table::contents::Parts;
 
 /// This and `push_number` differ in the vector and in the rows' method, which is all that each of them does; one function with both as
-/// parameters would be no shorter. In `enter` itself the two calls were tried: between them the counts differ, which the check refuses.
+/// parameters would be no shorter. They stand apart from `enter`, since between the two calls the counts differ, which the check refuses there.
 pub(crate) fn push_bit(parts: &mut Parts, first: bool) -> Result<(), AllocError>
     requires { vec_len parts.old.bits < 64 }
     ensures { parts_of parts.new ≡ (if is_ok result then with_bits (parts.old.bits.items ++ first ∷ []) (parts_of parts.old) else parts_of parts.old) }

@@ -8,8 +8,8 @@ use crate::rows::Rows;
 use std::alloc::{AllocError, Global};
 
 // `add_bit` and `add_number`, and `add_expression` and `add_formula`, differ in a field alone. Each is one line, and a trait over what
-// differs would take two impls to share it. The clauses of the latter two say what holds after `Ok` and what after `Err`; a definition would take
-// both as parameters and be no shorter.
+// differs would take two impls to share it. The clauses of the latter two say what holds after `Ok` and what after `Err`; a definition
+// would take both as parameters and be no shorter.
 impl Rows {
     /// No bits, numbers or rows.
     pub fn new(heap: Global) -> Rows

@@ -50,8 +50,9 @@ impl<T> Conditional<T> {
 }
 
 impl<T: Drop> Conditional<T> {
-    /// One part more; want of memory leaves those that there are. The clause says what holds after `Ok` and what after `Err`, as a
-    /// definition of both would, and no longer.
+    /// One part more; want of memory leaves those that there are.
+    ///
+    /// The clause says what holds after `Ok` and what after `Err`; a definition would take both as parameters and be no shorter.
     pub fn push(&mut self, part: T) -> Result<(), AllocError>
         ensures condition { self.new.condition ≡ self.old.condition }
         ensures parts { self.new.parts.items ≡ (if is_ok result then self.old.parts.items ++ part ∷ [] else self.old.parts.items) }

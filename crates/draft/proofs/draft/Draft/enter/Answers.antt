@@ -34,6 +34,11 @@ with_parts s p = grown (seen s) (with_tick (seen s).problem.tick (with_goal (see
 abbrev with_rows : Inside → Plain → Draft
 with_rows s r = grown (seen s) (with_expressions r.expressions (with_formulas r.formulas (seen s).problem))
 
+-- the depths of the rows so far with that of the row x behind them
+measured : {X : Type 0} (depth : List ℕ → X → ℕ) (x : X) (kept : List ℕ) {lent reserved after : List ℕ} {n : ℕ} → n ≡ depth lent x → lent ≡ kept → reserved ≡ kept
+    → after ≡ reserved ++ n ∷ [] → after ≡ kept ++ depth kept x ∷ []
+measured depth x kept e l r p = p ∙ ap₂ (λ (l : List ℕ) (n : ℕ). l ++ n ∷ []) r (e ∙ ap (λ l. depth l x) l)
+
 pub invariant_of-self-in-Continue-1 : goal.invariant_of-self-in-Continue-1
 invariant_of-self-in-Continue-1 c =
     let s = c.self.inside in
@@ -55,11 +60,9 @@ invariant_of-self-in-Expression c =
     let fs = vec_items s.formula_depths in
     let e = c.in-Expression.e in
     let h = passing s _ _ (plain.expression e) c.self.view_is (ap plain_entry c.in-Expression.is) c.requires in
-    let depth : c.expression_depth-depth.result ≡ expression_depth es e = c.expression_depth-depth.ensures ∙ ap (λ l. expression_depth l e) c.as_slice.ensures.value in
-    let measured : vec_items c.push_reserved.new.self ≡ es ++ expression_depth es e ∷ [] =
-    c.push_reserved.ensures.items ∙ ap₂ (λ (l : List ℕ) (n : ℕ). l ++ n ∷ []) c.reserve.ensures.items depth in
+    let behind = measured expression_depth e es c.expression_depth-depth.ensures c.as_slice.ensures.value c.reserve.ensures.items c.push_reserved.ensures.items in
     let P : Plain → List ℕ → Type 0 = λ r l. Keeps (with_rows s r) l fs s.effects s.rates in
-    subst (P (rows_seen c.add_expression.new.self)) (sym measured)
+    subst (P (rows_seen c.add_expression.new.self)) (sym behind)
     (subst (λ r. P r (es ++ expression_depth es e ∷ [])) (sym c.in_ok-add_expression-in-Expression.ensures) (keeps_expression d es fs s.effects s.rates c.self.invariant e h))
 
 pub invariant_of-self-in-Formula : goal.invariant_of-self-in-Formula
@@ -70,11 +73,9 @@ invariant_of-self-in-Formula c =
     let fs = vec_items s.formula_depths in
     let f = c.in-Formula.f in
     let h = passing s _ _ (plain.formula f) c.self.view_is (ap plain_entry c.in-Formula.is) c.requires in
-    let depth : c.formula_depth-depth.result ≡ formula_depth fs f = c.formula_depth-depth.ensures ∙ ap (λ l. formula_depth l f) c.as_slice-in-Formula.ensures.value in
-    let measured : vec_items c.push_reserved-in-Formula.new.self ≡ fs ++ formula_depth fs f ∷ [] =
-    c.push_reserved-in-Formula.ensures.items ∙ ap₂ (λ (l : List ℕ) (n : ℕ). l ++ n ∷ []) c.reserve-in-Formula.ensures.items depth in
+    let behind = measured formula_depth f fs c.formula_depth-depth.ensures c.as_slice-in-Formula.ensures.value c.reserve-in-Formula.ensures.items c.push_reserved-in-Formula.ensures.items in
     let P : Plain → List ℕ → Type 0 = λ r l. Keeps (with_rows s r) es l s.effects s.rates in
-    subst (P (rows_seen c.add_formula.new.self)) (sym measured)
+    subst (P (rows_seen c.add_formula.new.self)) (sym behind)
     (subst (λ r. P r (fs ++ formula_depth fs f ∷ [])) (sym c.in_ok-add_formula-in-Formula.ensures) (keeps_formula d es fs s.effects s.rates c.self.invariant f h))
 
 pub invariant_of-self-in-Action : goal.invariant_of-self-in-Action
