@@ -6,5 +6,7 @@ pub mod Entered
 pub mod Lawful
 pub mod Plain
 pub mod Kept
+pub mod Drafted
+pub mod Held
 pub mod Seen
 pub mod Outcome

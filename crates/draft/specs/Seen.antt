@@ -1,14 +1,20 @@
--- The draft that the code's draft stands for. A tick length and a goal that have not come count as 0.
-use Rattle.std.specs.Prelude.{is_some, unwrap_or}
-use Rattle.table.specs.Seen.{problem_with}
+-- The draft that the code's draft stands for, and all that a contract sees of it.
 use Rattle.draft.specs.Draft.{Draft}
+use Rattle.draft.specs.Drafted.{drafted}
+use Rattle.draft.specs.Held.{Held}
 use Rattle.draft.specs.declared.draft.Draft.TheInside.{Inside}
 
 abbrev pub seen : Inside → Draft
-seen d =
+seen d = drafted d.tick d.parts d.goal d.owner
+
+abbrev pub held : Inside → Held
+held d =
     record {
-      problem = problem_with (unwrap_or d.tick 0) d.parts (unwrap_or d.goal 0);
-      owner = d.owner;
-      begun = is_some d.tick;
-      ended = is_some d.goal;
+      plain = seen d;
+      parts = d.parts;
+      expression_depths = d.expression_depths;
+      formula_depths = d.formula_depths;
+      effects = d.effects;
+      rates = d.rates;
+      keeps = d.keeps;
     }

@@ -1,4 +1,7 @@
 //! The draft. What it holds is lawful at every moment, but for what has not come yet.
+ghost use Rattle.draft.specs.Kept.{Keeps};
+ghost use Rattle.draft.specs.Drafted.{drafted};
+
 use crate::entry::Owner;
 use std::marker::Model;
 use table::contents::Parts;
@@ -23,18 +26,17 @@ pub struct Draft {
     formula_depths: Vec<u8>,
     effects: usize,
     rates: usize,
+    ghost keeps: { Keeps (drafted tick parts goal owner) expression_depths.items formula_depths.items effects rates },
 }
 
-/// A draft is seen as the problem so far, and what decides which record may come next.
+/// A draft is seen as the problem so far, with what decides which record may come next, and beside it as all that holds this: where two
+/// are equal, they are the same to the last vector's room.
 impl Model for Draft {
-    ghost use Rattle.draft.specs.Draft as plain;
+    ghost use Rattle.draft.specs.Held.{Held};
 
-    ghost Value = { plain.Draft };
+    ghost Value = { Held };
 
-    ghost use Rattle.draft.specs.Kept.{Keeps};
-    ghost use Rattle.draft.specs.Seen.{seen};
+    ghost use Rattle.draft.specs.Seen.{held};
 
-    ghost view = { seen };
-
-    ghost invariant = { λ d. Keeps (seen d) d.expression_depths.items d.formula_depths.items d.effects d.rates };
+    ghost view = { held };
 }

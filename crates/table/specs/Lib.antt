@@ -2,3 +2,4 @@ pub mod Problem
 pub mod Depth
 pub mod Lawful
 pub mod Seen
+pub mod Sealed

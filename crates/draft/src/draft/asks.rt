@@ -109,7 +109,7 @@ fn has_lawful_fields(entry: Entry<'_>) -> bool
 impl Draft {
     /// How many bits, numbers, expressions and formulas there are.
     fn rows(&self) -> usize
-        ensures value { result ≡ terms_of self.now.problem }
+        ensures value { result ≡ terms_of self.now.plain.problem }
         ensures bound { result ≤ 2144 }
     {
         let p = &self.parts;
@@ -118,7 +118,7 @@ impl Draft {
 
     /// How many actions, events and processes there are.
     fn owners(&self) -> usize
-        ensures value { result ≡ owners_of self.now.problem }
+        ensures value { result ≡ owners_of self.now.plain.problem }
         ensures bound { result ≤ 128 }
     {
         let p = &self.parts;
@@ -127,7 +127,7 @@ impl Draft {
 
     /// How many records the draft has taken.
     fn records(&self) -> usize
-        ensures value { result ≡ records_of self.now }
+        ensures value { result ≡ records_of self.now.plain }
         ensures bound { result ≤ 2850 }
     {
         usize::from(self.tick.is_some())
@@ -140,14 +140,14 @@ impl Draft {
 
     /// Whether records behind the head and before the goal may come.
     fn is_going_on(&self) -> bool
-        ensures { result ≡ going_on self.now }
+        ensures { result ≡ going_on self.now.plain }
     {
         self.tick.is_some() && self.goal.is_none()
     }
 
     /// Effects belong to an action or an event, rates to a process.
     fn may_stand(&self, kind: Kind) -> bool
-        ensures { result ≡ may_stand self.now kind }
+        ensures { result ≡ may_stand self.now.plain kind }
     {
         match kind {
             Kind::Head => self.tick.is_none(),
@@ -159,7 +159,7 @@ impl Draft {
     }
 
     fn has_room(&self, kind: Kind) -> bool
-        ensures { result ≡ has_room self.now kind }
+        ensures { result ≡ has_room self.now.plain kind }
     {
         let p = &self.parts;
         match kind {
@@ -178,7 +178,7 @@ impl Draft {
 
     /// The fault by which the record that comes next is refused.
     pub fn row_fault(&self, question: RowQuestion) -> Fault
-        ensures { result ≡ row_fault question self.now }
+        ensures { result ≡ row_fault question self.now.plain }
     {
         Fault::Row(Refusal {
             question,
@@ -188,7 +188,7 @@ impl Draft {
 
     /// Refuses the record that comes next by this question, unless the answer is yes.
     pub(crate) fn ask(&self, yes: bool, question: RowQuestion) -> Result<(), Fault>
-        ensures { fault result ≡ ask yes (row_fault question self.now) None }
+        ensures { fault result ≡ ask yes (row_fault question self.now.plain) None }
     {
         if yes {
             Ok(())
@@ -199,7 +199,7 @@ impl Draft {
 
     /// What is asked of a record's kind alone, where the record begins at the byte `at`: may it stand here, and is its limit kept?
     pub fn ask_kind(&self, kind: Kind, at: usize) -> Result<(), Fault>
-        ensures { fault result ≡ kind_refused self.now at kind }
+        ensures { fault result ≡ kind_refused self.now.plain at kind }
     {
         if !self.may_stand(kind) {
             return Err(RecordQuestion::Order.at(at));
@@ -209,13 +209,13 @@ impl Draft {
 
     /// Whether a formula of this number stands.
     fn has_formula(&self, formula: u16) -> bool
-        ensures { result ≡ nat_lt formula (length self.now.problem.formulas) }
+        ensures { result ≡ nat_lt formula (length self.now.plain.problem.formulas) }
     {
         usize::from(formula) < self.parts.rows.formulas.len()
     }
 
     fn rows_stand(&self, entry: Entry<'_>) -> bool
-        ensures { result ≡ rows_stand self.now (plain_entry entry.entry) }
+        ensures { result ≡ rows_stand self.now.plain (plain_entry entry.entry) }
     {
         match entry {
             Entry::Head(_) | Entry::Bit(_) | Entry::Number(_) => true,
@@ -230,7 +230,7 @@ impl Draft {
     }
 
     fn is_shallow(&self, entry: Entry<'_>) -> bool
-        ensures { result ≡ shallow self.now (plain_entry entry.entry) }
+        ensures { result ≡ shallow self.now.plain (plain_entry entry.entry) }
     {
         match entry {
             Entry::Expression(e) => expression_depth(self.expression_depths.as_slice(), e)
@@ -241,7 +241,7 @@ impl Draft {
     }
 
     fn name_is_new(&self, entry: Entry<'_>) -> bool
-        ensures { result ≡ name_is_new self.now (plain_entry entry.entry) }
+        ensures { result ≡ name_is_new self.now.plain (plain_entry entry.entry) }
     {
         match entry {
             Entry::Action { name, .. } => is_new_name(self.parts.actions.as_slice(), name),
@@ -251,7 +251,7 @@ impl Draft {
 
     /// What is asked of what a record says: are its fields lawful, do the rows that it names stand, is it shallow, is its name new?
     pub(crate) fn ask_entry(&self, entry: Entry<'_>) -> Result<(), Fault>
-        ensures { fault result ≡ entry_refused self.now (plain_entry entry.entry) }
+        ensures { fault result ≡ entry_refused self.now.plain (plain_entry entry.entry) }
     {
         self.ask(has_lawful_fields(entry), RowQuestion::Fields)?;
         self.ask(self.rows_stand(entry), RowQuestion::Rows)?;

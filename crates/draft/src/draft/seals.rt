@@ -15,7 +15,7 @@ use table::sealed::Table;
 impl Draft {
     /// A draft that has taken no record.
     pub fn blank(heap: Global) -> Draft
-        ensures { result ≡ blank }
+        ensures { result.plain ≡ blank }
     {
         Draft {
             tick: None,
@@ -31,22 +31,22 @@ impl Draft {
 
     /// Discards all that the draft holds.
     pub fn clear(&mut self)
-        ensures { self.new ≡ blank }
+        ensures { self.new.plain ≡ blank }
     {
         *self = Draft::blank(*self.parts.bits.allocator());
     }
 
     /// Has the goal come? It moves and changes nothing, and tells that what the draft holds is lawful so far, as it always is.
     pub fn ask_seal(&self) -> Result<(), Fault>
-        ensures answer { fault result ≡ seal_refused self.now }
-        ensures lawful { LawfulDraft self.now }
+        ensures answer { fault result ≡ seal_refused self.now.plain }
+        ensures lawful { LawfulDraft self.now.plain }
     {
         self.ask(self.goal.is_some(), RowQuestion::Goal)
     }
 
     /// The table of a draft whose goal has come; any other draft is handed back as it was.
     pub fn seal(self) -> Result<Table, Draft>
-        ensures { MatchResult result (λ t. (sealed self ≡ Some t) × Lawful t) (λ d. (sealed self ≡ None) × (d ≡ self)) }
+        ensures { MatchResult result (λ t. (sealed self.plain ≡ Some t.problem) × Lawful t.problem) (λ d. (sealed self.plain ≡ None) × (d ≡ self)) }
     {
         let (Some(tick), Some(goal)) = (self.tick, self.goal) else {
             return Err(self);

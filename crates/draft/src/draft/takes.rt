@@ -21,8 +21,8 @@ impl Draft {
     /// function of both would take these as parameters and be no shorter. The clause says what holds after `Ok` and what after `Err`. A depth is at most 12 here, so `as` loses nothing, as the check proves; `u8::try_from` would need
     /// the same proof for its `unwrap`.
     fn enter(&mut self, entry: Entry<'_>) -> Result<(), AllocError>
-        requires { Passes self.old (plain_entry entry) }
-        ensures { self.new ≡ (if is_ok result then entered self.old (plain_entry entry.entry) else self.old) }
+        requires { Passes self.old.plain (plain_entry entry) }
+        ensures { self.new.plain ≡ (if is_ok result then entered self.old.plain (plain_entry entry.entry) else self.old.plain) }
     {
         let heap = *self.parts.bits.allocator();
         match entry {
@@ -78,9 +78,9 @@ impl Draft {
 
     /// Takes what a record says, or refuses it and stays as it was. Its kind has been asked for before.
     pub fn admit(&mut self, entry: Entry<'_>) -> Result<(), Fault>
-        requires stands { may_stand self.old (kind (plain_entry entry)) ≡ true }
-        requires room { has_room self.old (kind (plain_entry entry)) ≡ true }
-        ensures { Tells (refused_or (entry_refused self.old (plain_entry entry.entry)) (entered self.old (plain_entry entry.entry))) self.old result self.new }
+        requires stands { may_stand self.old.plain (kind (plain_entry entry)) ≡ true }
+        requires room { has_room self.old.plain (kind (plain_entry entry)) ≡ true }
+        ensures { Tells (refused_or (entry_refused self.old.plain (plain_entry entry.entry)) (entered self.old.plain (plain_entry entry.entry))) self.old.plain result self.new.plain }
     {
         self.ask_entry(entry)?;
         Ok(self.enter(entry)?)

@@ -16,13 +16,13 @@ use Rattle.records.proofs.Read.{fits_read, kind_decoded}
 use Rattle.records.proofs.load.take.Goals as goal
 
 pub decode-requires : goal.decode-requires
-decode-requires c = fits_read (length c.args.found.body.now) (coded c.args.found.code) c.in-Some.kind c.in-Some.ensures
+decode-requires c = fits_read (length c.args.body.now) (coded c.args.code) c.in-Some.kind c.in-Some.ensures
 
 pub admit-requires : goal.admit-requires
 admit-requires c =
-    let d = c.args.draft.now in
+    let d = c.args.draft.now.plain in
     let k = c.in-Some.kind in
-    let is = kind_decoded k c.args.found.body.now (plain_entry c.in-Some-decode.entry) c.in-Some-decode.ensures in
+    let is = kind_decoded k c.args.body.now (plain_entry c.in-Some-decode.entry) c.in-Some-decode.ensures in
     let a = ask_passed (may_stand d k) (record_fault Order c.args.at) (ask (has_room d k) (row_fault Limit d) None) (sym c.in_ok-ask_kind.ensures) in
     let b = ask_passed (has_room d k) (row_fault Limit d) None a.1 in
     record {
@@ -32,12 +32,12 @@ admit-requires c =
 
 pub returns-in_err-ask_kind : goal.returns-in_err-ask_kind
 returns-in_err-ask_kind c =
-    let d = c.args.draft.now in
-    let body = c.args.found.body.now in
+    let d = c.args.draft.now.plain in
+    let body = c.args.body.now in
     let k = c.in-Some.kind in
     let p = err_from_is_err_and c.from_residual.result c.from_residual.ensures.1 in
     rw p.1 (
-      subst (λ f. RefusedRecord (with_record d c.args.at c.args.found.code body) f) (sym p.2)
+      subst (λ f. RefusedRecord (with_record d c.args.at c.args.code body) f) (sym p.2)
           (subst (λ o. RefusedRecord (with_kind d c.args.at body o) c.in_err-ask_kind.field-0.0) c.in-Some.ensures
           (kind_told d c.args.at k c.in_err-ask_kind.field-0.0 (with_entry d (decoded k body)) c.in_err-ask_kind.ensures)),
       refl,

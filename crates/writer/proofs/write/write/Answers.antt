@@ -1,6 +1,5 @@
-use Rattle.std.proofs.Common.{◌≡◌, ℕ, List, ◌++◌, vec_items, ap, ◌∙◌, subst}
+use Rattle.std.proofs.Common.{◌≡◌, ℕ, List, ◌++◌, vec_items, ap, ◌∙◌}
 use Rattle.std.proofs.lemmas.Result.{IfOk-from_err}
-use Rattle.table.specs.Lawful.{Lawful}
 use Rattle.table.specs.Seen.{problem_of}
 use Rattle.records.specs.Loaded.{problem_loaded}
 use Rattle.writer.specs.Written.{written}
@@ -18,8 +17,8 @@ returns-in_err-put c =
 
 pub returns : goal.returns
 returns c =
-    let p = c.args.table.now in
+    let p = c.args.table.now.problem in
     let e : vec_items c.put.new.out ≡ written p =
     c.in_ok-put.ensures ∙ ap (λ (l : List ℕ). l ++ written (problem_of c.contents.result.now)) c.new-out.ensures.items
     ∙ ap written c.contents.ensures.value in
-    record { bytes = e; loads_back = ap problem_loaded e ∙ loads.loads_back p (subst Lawful c.contents.ensures.value c.contents.ensures.lawful); law = loads.loads_back }
+    record { bytes = e; loads_back = ap problem_loaded e ∙ loads.loads_back p c.args.table.now.lawful; law = loads.loads_back }
