@@ -1,5 +1,5 @@
 -- What a draft keeps true stays true with each record that passes.
-use Rattle.std.proofs.Common.{◌≡◌, ℕ, ◌+◌, Bool, true, false, cond, List, [], ◌∷◌, ◌++◌, ℤ, Some, None, Option, sym, refl, ap, ◌∙◌}
+use Rattle.std.proofs.Common.{◌≡◌, ℕ, ◌+◌, Bool, true, false, List, [], ◌∷◌, ◌++◌, ℤ, Some, None, Option, sym, refl, ap, ◌∙◌}
 use Rattle.std.proofs.lemmas.Bool.{and_parts}
 use Rattle.faults.specs.declared.Fault.{Fault}
 use Rattle.faults.specs.declared.RowQuestion.TheVariants.{Fields, Rows, Depth, Name}
@@ -153,8 +153,3 @@ effect_between t g (Some owners.Action) e p = refl
 effect_between t g (Some owners.Event) e p = refl
 effect_between t g (Some owners.Process) e p = refl
 effect_between t g None e p = refl
-
--- what holds both after a record and without it
-pub either : {X : Type 0} (P : X → Type 0) (b : Bool) (x y : X) → P x → P y → P (cond b x y)
-either P true x y h k = h
-either P false x y h k = k

@@ -3,4 +3,3 @@ pub mod Counted
 pub mod Entered
 pub mod Last
 pub mod Kept
-pub mod Same

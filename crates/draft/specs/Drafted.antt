@@ -1,4 +1,4 @@
--- The draft of a tick length and a goal that may not have come, parts and the last owner.
+-- The draft of a tick length and a goal that may not have come, parts and the last owner. It is over fields, since a ghost field speaks of these.
 use Rattle.std.specs.Prelude.{ℕ, Option, is_some, unwrap_or}
 use Rattle.table.specs.Seen.{problem_with}
 use Rattle.table.specs.declared.contents.Parts.{Parts}

@@ -5,7 +5,7 @@ use Rattle.table.specs.declared.contents.Parts.{Parts}
 use Rattle.draft.specs.Draft.{Draft}
 use Rattle.draft.specs.Kept.{Keeps}
 
--- drafts that are equal are the same in all that they hold, the room of their vectors too
+-- drafts that are equal are the same in all that they hold, the capacity of each vector too
 pub record Held : Type 0 where
   pub plain : Draft
   pub parts : Parts

@@ -29,8 +29,8 @@ pub struct Draft {
     ghost keeps: { Keeps (drafted tick parts goal owner) expression_depths.items formula_depths.items effects rates },
 }
 
-/// A draft is seen as the problem so far, with what decides which record may come next, and beside it as all that holds this: where two
-/// are equal, they are the same to the last vector's room.
+/// A draft is seen as the problem so far, with what decides which record may come next, and beside it as all that holds this: drafts that
+/// are equal are the same in the capacity of each vector too.
 impl Model for Draft {
     ghost use Rattle.draft.specs.Held.{Held};
 

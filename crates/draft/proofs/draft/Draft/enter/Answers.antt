@@ -1,4 +1,5 @@
 use Rattle.std.proofs.Common.{◌≡◌, ℕ, ◌+◌, List, [], ◌∷◌, ◌++◌, vec_items, is_ok, sym, ap, ◌∙◌, subst, ap₂, w32, SFits, rules}
+use Rattle.std.proofs.lemmas.Bool.{cond_both}
 use Rattle.std.proofs.lemmas.Int.{to_z-of_z}
 use Rattle.rows.specs.declared.row.Effect.{Effect}
 use Rattle.rows.specs.Seen.{Plain, plain as rows_seen}
@@ -7,20 +8,21 @@ use Rattle.table.specs.Depth.{expression_depth, formula_depth}
 use Rattle.table.specs.Seen.{action_of, parts_of}
 use Rattle.draft.specs.Draft.{Draft}
 use Rattle.draft.specs.Entry as plain
-use Rattle.draft.specs.Entered.{grown, owned, with_tick, with_goal, with_bits, with_numbers, with_expressions, with_formulas, with_actions}
+use Rattle.draft.specs.Entered.{grown, owned, with_tick, with_goal, with_expressions, with_formulas, with_actions}
 use Rattle.draft.specs.Kept.{Keeps}
 use Rattle.draft.specs.Plain.{plain_entry}
 use Rattle.draft.specs.Questions.{Passes}
-use Rattle.draft.specs.Seen.{seen}
+use Rattle.draft.specs.Held.{Held}
+use Rattle.draft.specs.Seen.{seen, held}
 use Rattle.draft.specs.declared.draft.Draft.TheInside.{Inside}
 use Rattle.draft.specs.declared.entry.Owner.TheVariants as owners
 use Rattle.draft.proofs.Grown.{seen_push}
-use Rattle.draft.proofs.Kept.{either, keeps_bit, keeps_number, keeps_expression, keeps_formula, keeps_action, keeps_effect, keeps_rate, effect_between}
+use Rattle.draft.proofs.Kept.{keeps_bit, keeps_number, keeps_expression, keeps_formula, keeps_action, keeps_effect, keeps_rate, effect_between}
 use Rattle.draft.proofs.draft.Draft.enter.Goals as goal
 
 -- what passes, at the draft as its fields show it
-passing : (s : Inside) (d : Draft) (x e : plain.Entry) → seen s ≡ d → x ≡ e → Passes d x → Passes (seen s) e
-passing s d x e v i h = subst (Passes (seen s)) i (subst (λ d. Passes d x) (sym v) h)
+passing : (s : Inside) (d : Held) (x e : plain.Entry) → held s ≡ d → x ≡ e → Passes d.plain x → Passes (seen s) e
+passing s d x e v i h = subst (Passes (seen s)) i (subst (λ (d : Held). Passes d.plain x) (sym v) h)
 
 -- the draft d with what the fields s keep beside the parts
 abbrev KeepsBy : Inside → Draft → Type 0
@@ -42,21 +44,21 @@ measured depth x kept e l r p = p ∙ ap₂ (λ (l : List ℕ) (n : ℕ). l ++ n
 pub invariant_of-self-inside-in-Bit : goal.invariant_of-self-inside-in-Bit
 invariant_of-self-inside-in-Bit c =
     let s = c.self.inside in
-    let h = passing s _ _ (plain.bit c.in-Bit.first) (ap (λ h. h.plain) c.self.view_is) (ap plain_entry c.in-Bit.is) c.requires in
+    let h = passing s _ _ (plain.bit c.in-Bit.first) c.self.view_is (ap plain_entry c.in-Bit.is) c.requires in
     let P : Problem → Type 0 = λ p. KeepsBy s (with_parts s p) in (
       subst P (sym c.push_bit.ensures)
-          (either P (is_ok c.push_bit.result) (with_bits (vec_items s.parts.bits ++ c.in-Bit.first ∷ []) (parts_of s.parts)) (parts_of s.parts) (keeps_bit (seen s) _ _ _ _ s.keeps c.in-Bit.first h) s.keeps),
+          (cond_both (is_ok c.push_bit.result) _ _ P (λ _. keeps_bit (seen s) _ _ _ _ s.keeps c.in-Bit.first h) (λ _. s.keeps)),
       tt,
     )
 
 pub invariant_of-self-inside-in-Number : goal.invariant_of-self-inside-in-Number
 invariant_of-self-inside-in-Number c =
     let s = c.self.inside in
-    let h = passing s _ _ (plain.number c.in-Number.first) (ap (λ h. h.plain) c.self.view_is) (ap plain_entry c.in-Number.is) c.requires in
+    let h = passing s _ _ (plain.number c.in-Number.first) c.self.view_is (ap plain_entry c.in-Number.is) c.requires in
     let f : SFits w32 c.in-Number.first = search rules in
     let P : Problem → Type 0 = λ p. KeepsBy s (with_parts s p) in (
       subst P (sym (simp to_z-of_z at c.push_number.ensures))
-          (either P (is_ok c.push_number.result) (with_numbers (vec_items s.parts.numbers ++ c.in-Number.first ∷ []) (parts_of s.parts)) (parts_of s.parts) (keeps_number (seen s) _ _ _ _ s.keeps c.in-Number.first h) s.keeps),
+          (cond_both (is_ok c.push_number.result) _ _ P (λ _. keeps_number (seen s) _ _ _ _ s.keeps c.in-Number.first h) (λ _. s.keeps)),
       tt,
     )
 
@@ -67,7 +69,7 @@ invariant_of-self-inside-in-Expression-2 c =
     let es = vec_items s.expression_depths in
     let fs = vec_items s.formula_depths in
     let e = c.in-Expression.e in
-    let h = passing s _ _ (plain.expression e) (ap (λ h. h.plain) c.self.view_is) (ap plain_entry c.in-Expression.is) c.requires in
+    let h = passing s _ _ (plain.expression e) c.self.view_is (ap plain_entry c.in-Expression.is) c.requires in
     let behind = measured expression_depth e es c.expression_depth-depth.ensures c.as_slice.ensures.value c.reserve.ensures.items c.push_reserved.ensures.items in
     let P : Plain → List ℕ → Type 0 = λ r l. Keeps (with_rows s r) l fs s.effects s.rates in (
       subst (P (rows_seen c.add_expression.new.self)) (sym behind)
@@ -82,7 +84,7 @@ invariant_of-self-inside-in-Formula-2 c =
     let es = vec_items s.expression_depths in
     let fs = vec_items s.formula_depths in
     let f = c.in-Formula.f in
-    let h = passing s _ _ (plain.formula f) (ap (λ h. h.plain) c.self.view_is) (ap plain_entry c.in-Formula.is) c.requires in
+    let h = passing s _ _ (plain.formula f) c.self.view_is (ap plain_entry c.in-Formula.is) c.requires in
     let behind = measured formula_depth f fs c.formula_depth-depth.ensures c.as_slice-in-Formula.ensures.value c.reserve-in-Formula.ensures.items c.push_reserved-in-Formula.ensures.items in
     let P : Plain → List ℕ → Type 0 = λ r l. Keeps (with_rows s r) es l s.effects s.rates in (
       subst (P (rows_seen c.add_formula.new.self)) (sym behind)
@@ -95,7 +97,7 @@ invariant_of-self-inside-in-Action-2 c =
     let s = c.self.inside in
     let d = seen s in
     let name = c.in-Action.name.now in
-    let h = passing s _ _ (plain.action c.in-Action.condition name) (ap (λ h. h.plain) c.self.view_is) (ap plain_entry c.in-Action.is) c.requires in
+    let h = passing s _ _ (plain.action c.in-Action.condition name) c.self.view_is (ap plain_entry c.in-Action.is) c.requires in
     let n = ap (λ (l : List ℕ). record { name = l; condition = c.new.result.condition; effects = vec_items c.new.result.parts }) c.in_ok-name-in-Action.ensures.items in
     let e = n ∙ ap₂ (λ (n : ℕ) (l : List Effect). record { name = name; condition = n; effects = l }) c.new.ensures.condition c.new.ensures.parts in (
       subst (λ acts. KeepsBy s (owned owners.Action d (with_actions acts d.problem)))
@@ -107,7 +109,7 @@ invariant_of-self-inside-in-Action-2 c =
 pub invariant_of-self-inside-in-Effect : goal.invariant_of-self-inside-in-Effect
 invariant_of-self-inside-in-Effect c =
     let s = c.self.inside in
-    let h = passing s _ _ (plain.effect c.in-Effect.e) (ap (λ h. h.plain) c.self.view_is) (ap plain_entry c.in-Effect.is) c.requires in
+    let h = passing s _ _ (plain.effect c.in-Effect.e) c.self.view_is (ap plain_entry c.in-Effect.is) c.requires in
     let d = seen s in
     let e = c.in-Effect.e in
     let P : Problem → Type 0 = λ p. Keeps (grown d p) (vec_items s.expression_depths) (vec_items s.formula_depths) (s.effects + 1) s.rates in (
@@ -119,7 +121,7 @@ invariant_of-self-inside-in-Effect c =
 pub invariant_of-self-inside-in-Rate : goal.invariant_of-self-inside-in-Rate
 invariant_of-self-inside-in-Rate c =
     let s = c.self.inside in
-    let h = passing s _ _ (plain.rate c.in-Rate.r) (ap (λ h. h.plain) c.self.view_is) (ap plain_entry c.in-Rate.is) c.requires in (
+    let h = passing s _ _ (plain.rate c.in-Rate.r) c.self.view_is (ap plain_entry c.in-Rate.is) c.requires in (
       subst (λ p. Keeps (with_parts s p) (vec_items s.expression_depths) (vec_items s.formula_depths) s.effects (s.rates + 1)) (sym c.in_ok-push_rate-in-Rate.ensures)
           (keeps_rate (seen s) _ _ _ _ s.keeps c.in-Rate.r h),
       tt,
